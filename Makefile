@@ -1,34 +1,37 @@
 PREFIX ?= /usr/local
-# Where libraries go, as /usr/lib64 or /usr/lib/x86_64-linux-gnu. A relative folder is one of the current folder.
+# Where libraries go, such as /usr/lib64 or /usr/lib/x86_64-linux-gnu. A relative folder is relative to the current
+# folder.
 override PREFIX := $(abspath $(PREFIX))
 LIBDIR ?= $(PREFIX)/lib
 override LIBDIR := $(abspath $(LIBDIR))
-# What capn.pc calls its prefix: in the archive, the place where it lies.
+# What capn.pc calls its prefix. In the archive, the prefix is the folder where capn.pc lies.
 PC_PREFIX ?= $(PREFIX)
-# The version is that of the file VERSION.
+# The version is in the file VERSION.
 VERSION := $(shell cat VERSION)
-# --anew: the whole run proves and tries again what an earlier run has passed on this machine.
+# With --anew, the whole run proves and tries again even what an earlier run has passed on this machine.
 ANEW ?=
-# The crates whose edits are tried; none: all that are due.
+# The crates whose edits are tried. If it is empty, all edits that are due are tried.
 CRATES ?=
 PROGRAM := crates/capn
-# The kit's folder. Its c/liblibc_c.a has the allocator's code in C: malloc, realloc, free.
+# The kit's folder. Its c/liblibc_c.a has the allocator in C: malloc, realloc and free.
 KIT ?= $(dir $(shell rt doc))
-# The library for C. It has no symbolic link, since the gate refuses one anywhere.
+# The folder of the library for C. It has no symbolic link, because the gate rejects every symbolic link.
 BUILD := build
 SHELL := bash
 .SHELLFLAGS := -o pipefail -c
 
-# The pages that are installed, with the program and with the library, in the repository's own folders, so that their
-# links hold: what they link to is among them, and contrib/ but for the scripts that try it in a clone.
+# The pages that are installed with the program and with the library. They lie in the same folders as in the repository,
+# so that their links work. The files that they link to are installed, too. So is contrib/, except for the scripts that
+# try it in a clone.
 PAGES := README.md LICENSE NOTICE $(wildcard docs/*.md docs/capn.[13] docs/internals/*.md docs/pictures/*.svg) \
 	$(wildcard .ci/*.md .ci/refused bench/*.md release/*.md tests/*.md vectors/*) \
 	$(wildcard $(sort $(shell grep -ohs 'crates/[a-z_]*/specs/[A-Za-z/]*\.antt' docs/internals/*.md))) \
 	$(filter-out %/run,$(sort $(shell find contrib -type f ! -path '*/__pycache__/*' 2> /dev/null)))
 # The headers.
 HEADERS := $(wildcard c/*.h c/*.hpp)
-# A file of a release, for verify-dist; and a clone where its commit is built already (BUILT), or where the gate passed
-# it, so that what it proved of the crates below the program and the library need not be proved again (OVER).
+# For verify-dist: FILE is a file of a release. BUILT is a clone where its commit is already built. OVER is a clone
+# where the gate passed its commit: what the gate proved there, of the crates below the program and the library, isn't
+# proved again.
 FILE ?= dist/*
 BUILT ?=
 OVER ?=
@@ -36,71 +39,78 @@ OVER ?=
 .PHONY: try program run test test-all quick edits pages write bench interop library beside linked
 .PHONY: install install-library uninstall uninstall-library release dist verify-dist clean-root
 
-# The stored run, tried before any proof, in a minute or a few: what runs is not the proved program.
+# Shows the stored run before any proof, in a minute or a few. The program that runs here is not proved.
 try:
 	@.ci/needs try
 	@echo "compiling capn without a proof, and running it: some minutes"
 	@.ci/stored-run try
 	@echo "nothing was proved: this is not the proved program, which make run builds"
 
-# The program, proved and built: crates/capn/out/capn. What it needs is proved and nothing else, several crates at a
-# time where processors and memory allow, with a line for each that is done.
+# Proves and builds the program: crates/capn/out/capn. Proves only the crates that it needs. Where processors and memory
+# allow, it proves several crates at a time. It prints a line for each crate that is done.
 program:
 	@.ci/needs run
 	@echo "proving and building capn: 30 to 70 minutes on four cores, less where an earlier run has proved the same"
 	@.ci/prove capn
 
-# Proves and builds the program, and shows its stored run: the bytes in and the bytes out.
+# Proves and builds the program, and shows its stored run: the input bytes and the output bytes.
 run: program
 	@.ci/stored-run built
 
-# The lines of the gate that need no prover; those that need what it builds. .ci/README.md says of each when it fails.
+# The lines of the gate that need no prover, and the lines that need what the gate builds. .ci/README.md says when each
+# fails.
 PAGE_LINES := .ci/lines .ci/docs .ci/borders .ci/cited .ci/toolchain .ci/version .ci/lists .ci/readings \
 	.ci/counts .ci/places release/completions tests/pages/touched tests/pages/words tests/cases release/symbols \
 	release/manual release/links tests/release/steps
 BUILT_LINES := release/recursion tests/program/statuses tests/program/full-disk tests/program/failures tests/vectors \
 	.ci/library release/installs release/glibc
 
-# The gate: every crate of the product is proved, every test and stored case is run. It fails where edits are due.
+# The gate proves every crate of the product, and runs every test and stored case. It fails if edits are due.
 test:
 	@.ci/needs test
 	@.ci/steps test $(PAGE_LINES) .ci/edits .ci/prove $(BUILT_LINES)
 
-# The whole run, which a release needs: proofs of tests too, and all edits that must fail. It alone writes build/PROVED:
-# what passed, of which commit. With ANEW=--anew it proves again what earlier runs have passed.
+# The whole run, which a release needs. Besides the gate, it proves the tests, and tries all edits that must fail. It
+# alone writes build/PROVED, which says what passed for which commit. With ANEW=--anew it proves again what earlier runs
+# have passed.
 test-all:
 	@.ci/needs test
 	@rm -f $(BUILD)/PROVED
 	@.ci/steps test-all $(PAGE_LINES) ".ci/prove --all $(ANEW)" $(BUILT_LINES) tests/c/two-compilers release/proved
 
-# All tests and stored cases, with no proof, for a tree that is being changed.
+# Runs all tests and stored cases without a proof. It is for a tree that is being changed.
 quick:
 	@tests/quick
 
-# Tries the edits that must fail: those that are due, or those of CRATES, and writes down what was refused.
+# Tries the edits that must fail, and records which were refused. It tries the edits that are due, or the edits of
+# CRATES.
 edits:
 	@.ci/edits --try $(CRATES)
 
-# The lines of the gate that need no prover, in a minute.
+# Runs the lines of the gate that need no prover, in a minute.
 pages:
 	@.ci/steps pages $(PAGE_LINES) .ci/edits
 
-# Writes all that scripts write into pages, packages and tests.
+# Writes everything that scripts write into pages, packages and tests.
 write:
 	.ci/version --write && .ci/lists --write && .ci/readings --write && tests/cases --write
 	release/completions --write && release/manual --write && tests/pages/touched --write && .ci/counts --write
 
-# The shortest times of each operation on each shape of message, in nanoseconds a byte.
+# Prints the shortest time of each operation on each shape of message, in nanoseconds per byte.
 bench:
 	cd crates/bench && rt run > /dev/null && ./out/bench times
 
-# The program and the library as it is called from each language, on every stored vector; a million calls from C, and
-# calls in two threads; the tests of C, C++ and Python once more under sanitizers, and those of Go under the race
-# detector; the guide's recipes, and the programs of the pages; 20,000 messages, valid and hostile, that C++, Rust, Go
-# and Python read as C does. And where the reference implementation is installed: messages that it wrote, the lines of
-# docs/DIFFERENCES.md, its answers and those of the crate capnp to the cases of vectors/, pairs of messages that its
-# builders wrote, and its table of hostile inputs, by root in a root of Debian 13 too, with the languages over the
-# library. With the program that the gate builds, or with an installed one: make interop CAPN=/usr/local/bin/capn.
+# Tests the program and the library with what the gate doesn't need: other languages, sanitizers and other readers.
+# - Each language calls the library on every stored vector. C makes a million calls, and calls in two threads.
+# - The tests of C, C++ and Python run once more under sanitizers, and the tests of Go under the race detector.
+# - The guide's recipes and the programs of the pages are run.
+# - C++, Rust, Go and Python read 20,000 messages, valid and hostile, as C reads them.
+# The rest needs an installed reference implementation, and is skipped without it:
+# - Messages that it wrote, and pairs of messages that its builders wrote, are read.
+# - Its answers, and those of the crate capnp, to the cases of vectors/ are compared.
+# - The lines of docs/DIFFERENCES.md and the table of hostile inputs are tried.
+# - If it runs as root, all of this and the languages over the library also run in a root of Debian 13.
+# It uses the program that the gate builds, or an installed one: make interop CAPN=/usr/local/bin/capn.
 interop: $(if $(CAPN),,program library)
 	./tests/c/agree
 	./tests/c/watched
@@ -124,22 +134,22 @@ interop: $(if $(CAPN),,program library)
 	else echo "python, hostile: skipped, since there is no python3"; fi
 	./tests/c/languages
 
-# The library for C, proved: the archive of capn_c and what is made of it.
+# Proves the library for C: the archive of capn_c, and the files that are made from it.
 library:
 	@.ci/prove capn_c
 	@$(MAKE) --no-print-directory linked
 
-# The program and the library, proved in one run. All of `make test`, which is this and more, took 28 minutes by the
-# clock from nothing, on a machine with four cores that did nothing else (bench/gate.md); others take up to twice that.
-# The longest chain is capn_words, value, target, walk, layout, canon, serve, archive, orders, tool and capn, each after
-# the other.
+# Proves the program and the library in one run. `make test` does this and more. It took 28 minutes from nothing, on a
+# machine with four cores and no other work (bench/gate.md). Other machines take up to twice as long. The longest chain
+# of crates that wait for one another is capn_words, value, target, walk, layout, canon, serve, archive, orders, tool
+# and capn.
 beside:
 	@.ci/prove capn capn_c
 	@$(MAKE) --no-print-directory linked
 
-# The two libraries that are linked with: the archive, the allocator, the texts and the defaults as one object, of which
-# the names capn_* alone are visible. The proved calls are named proved_capn_*, and c/defaults.c passes on to them.
-# Proves nothing, and compiles the texts and the defaults alone.
+# Links the static and the shared library. Both contain the archive, the allocator, the texts and the defaults as one
+# object, in which only the names capn_* are visible. The proved calls are named proved_capn_*, and the calls of
+# c/defaults.c pass on to them. It proves nothing, and compiles only the texts and the defaults.
 linked:
 	@test -f "$(KIT)c/liblibc_c.a" || { echo "there is no rt, whose folder has the allocator in C" >&2; exit 1; }
 	@test -f crates/capn_c/out/libcapn_c.a || { echo "there is no proved archive: run make library" >&2; exit 1; }
@@ -154,7 +164,8 @@ linked:
 	cd $(BUILD) && ar rcsD libcapn.a capn.o
 	cd $(BUILD) && $(CC) -shared -o libcapn.so.1 -Wl,-soname,libcapn.so.1 -Wl,-z,defs,-z,now capn.o
 
-# The program, its manual page, completions and pages. Builds nothing, so that nothing is proved and built as root.
+# Installs the program, its manual page, completions and pages. It builds nothing, so that root proves and builds
+# nothing.
 install: into := $(DESTDIR)$(PREFIX)
 install:
 	@test -x $(PROGRAM)/out/capn || { echo "there is no program to install: run make program first" >&2; exit 1; }
@@ -166,7 +177,7 @@ install:
 	for it in $(PAGES); do \
 		install -D -m $$(test -x $$it && echo 755 || echo 644) $$it $(into)/share/doc/capn/$$it || exit 1; done
 
-# Removes what install put there, by its names.
+# Removes the files that install put there, by their names.
 uninstall: into := $(DESTDIR)$(PREFIX)
 uninstall:
 	rm -f $(into)/bin/capn $(into)/share/man/man1/capn.1 $(into)/share/bash-completion/completions/capn
@@ -174,7 +185,8 @@ uninstall:
 	rm -f $(addprefix $(into)/share/doc/capn/,$(PAGES))
 	test ! -d $(into)/share/doc/capn || find $(into)/share/doc/capn -type d -empty -delete
 
-# The library for C: both forms, headers, its manual page, and what pkg-config and CMake read. Builds nothing either.
+# Installs the library for C: both forms, the headers, its manual page, and the files for pkg-config and CMake. It
+# builds nothing either.
 install-library: into := $(DESTDIR)$(PREFIX)
 install-library:
 	@test -f $(BUILD)/libcapn.a -a -f $(BUILD)/libcapn.so.1 \
@@ -194,7 +206,7 @@ install-library:
 	for it in $(PAGES); do \
 		install -D -m $$(test -x $$it && echo 755 || echo 644) $$it $(into)/share/doc/libcapn/$$it || exit 1; done
 
-# Removes what install-library put there, by its names.
+# Removes the files that install-library put there, by their names.
 uninstall-library: into := $(DESTDIR)$(PREFIX)
 uninstall-library: libraries := $(DESTDIR)$(LIBDIR)
 uninstall-library:
@@ -205,21 +217,23 @@ uninstall-library:
 	for it in $(libraries)/cmake/capn $(into)/share/doc/libcapn; do \
 		test ! -d $$it || find $$it -type d -empty -delete; done
 
-# A release of this very commit: the whole run, the files, and what tries them, each step in turn. It goes on where it
-# was stopped. With OVER the last step takes what the whole run proved in that clone, as OVER=. does of this one.
+# Makes a release of the current commit. It does the whole run, makes the files, and tries them, step by step. A run
+# goes on where an earlier run stopped. With OVER, the last step takes what the whole run proved in this clone, as
+# verify-dist does with OVER=.
 release:
 	release/all $(if $(OVER),--over $(OVER))
 
-# The files of a release, in dist/, of the program and the libraries that are built. It needs Debian's dpkg-dev, lintian
-# and python3-wheel, and what docs/PYTHON.md lists. Their names say so where the whole run has not passed.
+# Makes the files of a release in dist/ from the program and the libraries that are built. It needs Debian's dpkg-dev,
+# lintian and python3-wheel, and what docs/PYTHON.md lists. If the whole run hasn't passed, the names of the files say
+# so.
 dist:
 	release/dist
 
-# Whether files of a release, those of dist/ or FILE, are what their commit builds.
+# Checks whether the files of a release are what their commit builds. The files are those of dist/, or FILE.
 verify-dist:
 	release/verify $(if $(BUILT),--built $(BUILT)) $(if $(OVER),--over $(OVER)) $(FILE)
 
-# The files of dist/ installed, used and removed in roots of Debian 12 and 13 that have nothing else.
+# Installs, uses and removes the files of dist/ in roots of Debian 12 and 13 that have nothing else.
 clean-root:
 	release/clean-root --debian 12
 	release/clean-root --debian 13

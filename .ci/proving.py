@@ -1,5 +1,5 @@
-"""What the scripts that prove crates share: the crates of crates.txt, copies of them, runs of `rt ci` that print a line
-for each crate that is done, and the library for C."""
+"""Shared code of the scripts that prove crates. It reads crates.txt, copies crates, runs `rt ci` with a line for each
+crate that is done, and builds the library for C."""
 
 import glob
 import os
@@ -12,15 +12,15 @@ import time
 
 TOP = os.path.abspath(os.path.join(os.path.dirname(os.path.abspath(__file__)), ".."))
 BUILD = os.path.join(TOP, "build")
-# The library for C, of which `rt ci` builds no archive, and the line that is printed while it is proved and built.
+# The library for C, and the line that is printed while it is proved and built. `rt ci` doesn't build its archive.
 LIBRARY = "capn_c"
 LIBRARY_LOG = os.path.join(BUILD, "library.log")
-# Crates that are run before any proof, and proved in the whole run alone: this one, and those with tests.
+# Crates that are run unproved. Only the whole run proves them, as it proves the crates that have tests.
 UNPROVED = ("bench",)
 
 
 class Stop(Exception):
-    """The reason for which a script ends with status 1."""
+    """The reason why a script ends with status 1."""
 
 
 def text_of(path):
@@ -59,13 +59,13 @@ def edits_of(name):
 
 
 def proved_by_the_gate(uses):
-    """Returns the crates that the gate proves: all but those that are only run before the proofs."""
+    """Returns the crates that the gate proves. The gate only runs the others, unproved."""
     return below([it for it in uses if it not in UNPROVED and not has_tests(it)], uses)
 
 
 def copied(names, edits, room):
-    """Copies these crates, with the edits of some of them, into a folder that has the form of the top of the
-    repository. Returns the folder."""
+    """Copies these crates into a folder with the layout of the repository, and returns the folder. Only the crates in
+    `edits` are copied with their edits."""
     top = os.path.join(room, "repo")
     os.makedirs(os.path.join(top, ".git"))
     lines = text_of(os.path.join(TOP, "crates.txt")).split("\n")
@@ -81,7 +81,7 @@ def copied(names, edits, room):
 
 
 def told(line):
-    """Writes a line of progress to the user, also if the other output goes elsewhere."""
+    """Writes a line of progress to the user, even if other output goes elsewhere."""
     at = os.environ.get("CAPN_PROGRESS")
     with os.fdopen(os.dup(int(at)), "w") if at else os.fdopen(os.dup(1), "w") as out:
         print(line, file=out, flush=True)
@@ -92,7 +92,7 @@ def minutes(since):
 
 
 class Run:
-    """A run of `rt ci` in a folder. Its output goes to a file, and each crate that is done is reported."""
+    """A run of `rt ci` in a folder. Its output goes to a file. It reports each crate that is done."""
 
     DONE = re.compile(r"^rt: (\w+)(: its tests are)? (proved|is kept|NOT PROVED)")
     TRIES = re.compile(r"^rt: (\w+): trying its must-fail edits \((\d+)\)")
@@ -102,7 +102,7 @@ class Run:
         self.done, self.since, self.lines, self.after = 0, since or time.time(), [], []
 
     def when(self, names, call):
-        """Calls this function once, as soon as all of these crates are proved."""
+        """Calls this function once, as soon as all these crates are proved."""
         self.after.append((set(names), call))
 
     def look(self, line):
@@ -125,7 +125,7 @@ class Run:
             told(f"  {tries[1]}: {tries[2]} edits are tried, {minutes(self.since)}")
 
     def run(self, *words, env=None):
-        """Runs `rt ci` with these words, and returns whether it passed."""
+        """Runs `rt ci` with these arguments, and returns whether it passed."""
         how = {"stdin": subprocess.DEVNULL, "stdout": subprocess.PIPE, "stderr": subprocess.STDOUT}
         os.makedirs(os.path.dirname(self.log), exist_ok=True)
         with open(self.log, "w", encoding="utf-8") as log:
@@ -138,7 +138,7 @@ class Run:
             return ran.wait() == 0
 
     def failures(self):
-        """Returns the prover's lines on each crate that is not proved, and the last lines of `rt ci`."""
+        """Returns the prover's lines on each crate that isn't proved, and the last lines of `rt ci`."""
         text = "\n".join(self.lines)
         lines = r"^== \w+(?:: its tests)?\n(?:(?!^== ).*\n)*?^rt: \w+(?:: its tests are)? NOT PROVED.*$"
         parts = re.findall(lines, text, re.M)
@@ -158,8 +158,8 @@ def kit():
 
 
 def library_started(top, jobs):
-    """Starts a command that proves the library for C and builds its archive, and returns the command. It uses the
-    libraries that a run has left in the folders out/ of their crates below `top`."""
+    """Starts the command that proves the library for C and builds its archive. Returns the running command. It uses the
+    libraries that a run left in the folders out/ of the crates below `top`."""
     kit_folder, folder = kit(), os.path.join(TOP, "crates", LIBRARY)
     words = ["-L", f"dependency={kit_folder}/rlibs"]
     for it in sorted(glob.glob(os.path.join(top, "crates", "*", "out", "rlib"))):
@@ -180,7 +180,7 @@ def library_started(top, jobs):
 
 
 def is_laid_out(name):
-    """Returns whether the files of a crate are as `rt fmt` lays them out."""
+    """Returns whether the files of a crate are laid out as `rt fmt` does it."""
     kinds = (f"{part}/**/*.{kind}" for part in ("src", "specs", "proofs") for kind in ("rt", "antt"))
     folder = os.path.join(TOP, "crates", name)
     files = [it for kind in kinds for it in glob.glob(os.path.join(folder, kind), recursive=True)]
@@ -189,7 +189,7 @@ def is_laid_out(name):
 
 
 def ended(call):
-    """Runs a script, and exits with its status. If it failed, prints why."""
+    """Runs a script and exits with its status. If the script failed, prints why."""
     try:
         sys.exit(call())
     except Stop as why:

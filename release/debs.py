@@ -1,4 +1,5 @@
-"""The packages of Debian of a release: the staged files that each takes, and its control files."""
+"""The Debian packages of a release. It lists the staged files that go into each package, and writes their control
+files."""
 
 import datetime
 import glob
@@ -16,11 +17,11 @@ LIBRARIES = "/usr/lib/x86_64-linux-gnu"
 
 
 class Debs:
-    """The methods that make packages of Debian, for a release that has a folder `work`, a time `seconds`, a text
+    """The methods that make Debian packages. The class that uses them needs a folder `work`, a time `seconds`, a text
     `proved`, a `debian_version` and a list `made`."""
 
     def debs(self, has_wheel):
-        """The packages of Debian. Each is a part of the staged files, with its own control files."""
+        """Makes the Debian packages. Each has a part of the staged files, and control files of its own."""
         staged = self.staged("staged", "/usr", LIBRARIES)
         take = {
             "capn": ["usr/bin", "usr/share/man/man1", "usr/share/bash-completion", "usr/share/zsh", "usr/share/fish",
@@ -58,7 +59,7 @@ class Debs:
             self.deb(package, os.path.join(self.work, "deb", package))
 
     def deb(self, package, folder):
-        """Builds one package of Debian, from its files and from its templates in release/debian."""
+        """Builds one Debian package from its files and from its templates in release/debian."""
         pages = os.path.join(folder, "usr/share/doc", package)
         os.makedirs(pages, exist_ok=True)
         for name in ("LICENSE", "NOTICE"):
@@ -82,7 +83,7 @@ class Debs:
             with open(overrides, encoding="utf-8") as file:
                 text = file.read()
             if not self.proved:
-                # the note on a first version is that of a release, not of a version in development
+                # this override is right only for a release, and not for a version in development
                 text = re.sub(r"#.*\n.*initial-upload.*\n", "", text)
             write(os.path.join(folder, "usr/share/lintian/overrides", package), text)
         control = os.path.join(folder, "DEBIAN")
@@ -122,7 +123,7 @@ class Debs:
             return re.search(rf"^{name}: (.*)$", file.read(), re.M)[1]
 
     def needs(self, package, folder):
-        """Returns the dependencies that dpkg-shlibdeps finds for the files of a package, and writes the list of
+        """Returns the dependencies that dpkg-shlibdeps finds for the files of a package. Also writes the list of
         symbols."""
         found = [os.path.join(folder, it) for it in packing.paths_of(folder)
                  if re.search(r"usr/bin/capn$|\.so(\.1)?$", it) and not os.path.islink(os.path.join(folder, it))]

@@ -1,4 +1,4 @@
-"""The list of components of a release, made from what NOTICE says on each."""
+"""Makes the list of components of a release from what NOTICE says on each component."""
 
 import datetime
 import json
@@ -10,8 +10,8 @@ from packing import VERSION
 
 
 def listed(made, seconds, commit, tree):
-    """Returns the list of components of these files, in the form of SPDX 2.3. It concludes no licence for the files,
-    since parts that are linked into them state none."""
+    """Returns the list of components of these files in the SPDX 2.3 format. It concludes no licence for the files,
+    because parts that are linked into them state none."""
     paths = {os.path.basename(it): it for it in made}
     day = datetime.datetime.fromtimestamp(seconds, datetime.timezone.utc)
     packages, relations, texts = [], [], {}

@@ -1,4 +1,4 @@
-"""What the scripts of a release share: its names, its tools, and archives that are the same bytes wherever made."""
+"""Shared code of the release scripts: names, tools, and archives that have the same bytes wherever they are made."""
 
 import gzip
 import hashlib
@@ -15,10 +15,10 @@ import zlib
 TOP = os.path.abspath(os.path.join(os.path.dirname(os.path.abspath(__file__)), ".."))
 with open(os.path.join(TOP, "VERSION"), encoding="utf-8") as _file:
     VERSION = _file.read().strip()
-# The version as packages for Python write it, by PEP 440, and as packages for Debian do: there 1.1.0-dev comes before
-# 1.1.0.
+# The version as packages for Python write it, by PEP 440, and as packages for Debian write it. In both, 1.1.0-dev sorts
+# before 1.1.0.
 VERSION_OF_PYTHON, VERSION_OF_DEBIAN = VERSION.replace("-dev", ".dev0"), VERSION.replace("-dev", "~dev")
-# The built files that are packed, by the names that they have in PROVED.
+# The built files that are packed, under their names in PROVED.
 BUILT = {
     "program": os.path.join(TOP, "crates", "capn", "out", "capn"),
     "libcapn.a": os.path.join(TOP, "build", "libcapn.a"),
@@ -28,11 +28,11 @@ PROVED = os.path.join(TOP, "build", "PROVED")
 
 
 class Stop(Exception):
-    """The reason for which a release can't be made, or a file isn't what it claims to be."""
+    """The reason why a release can't be made, or why a file isn't what it claims to be."""
 
 
 def said(*words, cwd=TOP, env=None, text=True):
-    """Returns the output of a command. If it fails, its own lines say why."""
+    """Returns the output of a command. If the command fails, the error has its output."""
     try:
         ran = subprocess.run(words, cwd=cwd, env=env, stdout=subprocess.PIPE, stderr=subprocess.PIPE, check=False)
     except FileNotFoundError:
@@ -44,7 +44,7 @@ def said(*words, cwd=TOP, env=None, text=True):
 
 
 def write(path, text, mode=0o644):
-    """Writes a file of text or of bytes, in a folder that is made if it isn't there."""
+    """Writes text or bytes into a file. It makes the folder if it doesn't exist."""
     os.makedirs(os.path.dirname(path), exist_ok=True)
     with open(path, "wb") as file:
         file.write(text if isinstance(text, bytes) else text.encode())
@@ -58,7 +58,7 @@ def sum_of(path):
 
 
 def commit_of(top=TOP):
-    """Returns the commit of a clone, its tree, its time in seconds, and whether nothing differs from it."""
+    """Returns the commit of a clone, its tree, its time in seconds, and whether the clone has no changes."""
     try:
         commit, tree, seconds = said("git", "show", "-s", "--format=%H %T %ct", "HEAD", cwd=top).split()
         return commit, tree, int(seconds), not said("git", "status", "--porcelain", cwd=top).strip()
@@ -67,7 +67,7 @@ def commit_of(top=TOP):
 
 
 def proof(commit, tree, is_clean):
-    """Returns what the whole run wrote on this tree and these files. Fails if there is nothing."""
+    """Returns the PROVED that the whole run wrote for this tree and these files. Fails if it wrote none."""
     if not os.path.exists(PROVED):
         raise Stop("the whole run has not passed here: make test-all")
     with open(PROVED, encoding="utf-8") as file:
@@ -84,17 +84,17 @@ def proof(commit, tree, is_clean):
 
 
 def installed(folder, prefix, libraries, *words):
-    """Returns a folder into which `make install` and `make install-library` have put their files. make gets these
-    words, too."""
+    """Runs `make install` and `make install-library` into a folder, and returns the folder. make gets these words,
+    too."""
     words = [f"DESTDIR={folder}", f"PREFIX={prefix}", f"LIBDIR={libraries}", *words]
-    # the options of a make that runs this script, such as a prefix, are not meant for this make
+    # this make doesn't get the options of a make that runs this script, such as a prefix
     env = {key: value for key, value in os.environ.items() if not key.startswith("MAKE") and key != "MFLAGS"}
     said("make", "--no-print-directory", "install", "install-library", *words, env=env)
     return folder
 
 
 def sources(folder):
-    """Copies the files of the repository that the archive has besides its pages: the crate, the module for Go, and
+    """Copies the repository's files that the archive has besides its pages: the Rust crate, the Go module, and the
     examples in C. Tests that need a clone are left out."""
     left_out = shutil.ignore_patterns(".gitignore", "target", "reference", "test", "*_test.go", "__pycache__")
     for name in ("rust", "go", "c/examples"):
@@ -110,7 +110,7 @@ def unpacked(path, folder):
 
 
 def settle(folder, seconds):
-    """Gives each file of a folder the modes and the time that it has in every release."""
+    """Gives each file of a folder the mode and the time that it has in every release."""
     for at, folders, names in os.walk(folder, topdown=False):
         for name in names + folders:
             path = os.path.join(at, name)
@@ -123,7 +123,7 @@ def settle(folder, seconds):
 
 
 def paths_of(folder):
-    """Returns the paths below a folder, sorted, each before those below it."""
+    """Returns the paths below a folder, sorted. A folder comes before the paths below it."""
     found = []
     for at, folders, names in os.walk(folder):
         found += [os.path.relpath(os.path.join(at, name), folder) for name in folders + names]
@@ -131,7 +131,8 @@ def paths_of(folder):
 
 
 def write_tar(folder, path, seconds):
-    """Packs a folder whose files have their modes and times, in the order of their names, as files of root."""
+    """Packs a folder whose files already have their modes and times. The files are in the order of their names, and
+    belong to root."""
     whole = io.BytesIO()
     with tarfile.open(fileobj=whole, mode="w", format=tarfile.GNU_FORMAT) as tar:
         for name in paths_of(folder):
@@ -162,7 +163,7 @@ def write_zip(folder, names, path, seconds):
 
 
 def proved_in(path):
-    """Returns the text of the PROVED in a released file, or None."""
+    """Returns the text of the PROVED inside a released file, or None."""
     try:
         if path.endswith(".tar.gz"):
             with tarfile.open(path) as tar:
@@ -182,7 +183,7 @@ def proved_in(path):
 
 
 def claims_of(text):
-    """Returns the lines of the head and the sums of a PROVED, by the first word of each."""
+    """Returns the head lines and the sums of a PROVED, by the first word of each line."""
     return dict(re.findall(r"^(commit|tree|toolchain|sha256 \S+) (.+)$", text, re.M))
 
 
