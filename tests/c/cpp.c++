@@ -14,7 +14,7 @@
 #include <unistd.h>
 #include <vector>
 
-/* The largest allocation of C++ so far. */
+/* The size of the largest allocation of C++ so far. */
 static std::size_t largest = 0;
 void *operator new(std::size_t size) {
     largest = std::max(largest, size);
@@ -30,7 +30,7 @@ static void want(const char *what, bool is) {
     failed++;
     std::printf("cpp: %s\n", what);
 }
-/* The text of the exception that a call throws. */
+/* Returns the text of the exception that a call throws. */
 template <class Thrown, class Call> static std::string thrown(Call call) {
     try {
         call();
@@ -41,7 +41,7 @@ template <class Thrown, class Call> static std::string thrown(Call call) {
     }
     return "nothing";
 }
-/* The bytes of some words. */
+/* Returns the bytes of some words. */
 static std::string words(std::initializer_list<std::uint64_t> words) {
     std::string out;
     for (const std::uint64_t word : words)
@@ -82,7 +82,7 @@ static void answers() {
     want("show as text", shown(capn::style::text) == "bytes 3 \"hi\\0\"\nend\n");
     want("show as JSON", shown(capn::style::json) == "{\"bytes\":\"686900\"}\n");
     want("show as JSON with texts", shown(capn::style::json_text) == "{\"text\":\"hi\"}\n");
-    /* Longer than the buffer that is tried first. */
+    /* This dump is longer than the buffer that is tried first. */
     const std::string bits = words({1 | 1ull << 32 | 64000ull << 35}) + std::string(8000, '\xff');
     want("a longer text", capn::show(bits, capn::form::bare).size() == 64018);
     want("pack", digits(capn::pack(one)) == "1003100201050000");
@@ -90,8 +90,8 @@ static void answers() {
     want("unpack", capn::bytes(capn::unpack(packed)).chars() == one);
     want("packed", capn::canonical(packed, capn::form::packed) == capn::canonical(one));
     want("canonical words", capn::is_canonical_words(capn::canonical(one)) && !capn::is_canonical_words(one.substr(8)));
-    /* A message of one segment whose last word isn't zero. Its table and its words together are canonical as a bare
-     * message. The message itself isn't canonical, since its struct has a zero word before a pointer. */
+    /* A message of one segment whose last word isn't zero. Read as a bare message, its segment table and its words are
+     * canonical. The message itself isn't canonical, since its struct has a zero word before a pointer. */
     using capn::form;
     const capn::limits few(99, 2, 9);
     const std::string loose = framed(words({2ull << 32 | 1ull << 48, 5, 0, 1 | 0x22ull << 32, 0x636261}));
@@ -108,7 +108,7 @@ static void answers() {
     want("limits of words", capn::is_canonical_words(loose, {}) && thrown<capn::refusal>([&] {
                                 (void)capn::is_canonical_words(loose, few);
                             }) == "OverBudget at 0:0, paid 0, visits 1");
-    /* The call without a form stays. It reads a single segment without a table. */
+    /* The call without a form still works. It reads a single segment without a table. */
 #if defined(__GNUC__)
 #pragma GCC diagnostic push
 #pragma GCC diagnostic ignored "-Wdeprecated-declarations"
@@ -128,15 +128,15 @@ static void answers() {
     /* An object with three pointers to it is written three times, so the result is longer than the message. */
     const std::string shared = framed(words({3ull << 48, 8 | 1ull << 32, 4 | 1ull << 32, 1ull << 32, 7}));
     want("a longer answer", capn::canonical(shared).size() == 56 && shared.size() == 48);
-    /* Canonical bytes are a plain vector, whose capacity is its length. */
+    /* Canonical bytes are a plain vector. Its capacity equals its length. */
     static_assert(std::is_same_v<decltype(capn::canonical(one)), std::vector<std::byte>>);
     const std::string null_root = std::string("\0\0\0\0\0\0\2\0", 8) + std::string(1 << 20, '\0');
     const std::vector<std::byte> small = capn::canonical(null_root);
     want("no more room than needed", small.size() == 8 && small.capacity() < 128);
     want("no more of a packed one", capn::canonical(capn::pack(one), form::packed).capacity() < 128);
     want("no more of a text", capn::show(null_root).capacity() < 128);
-    /* A message that is longer than the limit is rejected before anything of its size is allocated: here 4 GiB, all of
-     * them one page of zeros. */
+    /* A message that is over the limit is rejected before anything of its size is allocated. This message has 4 GiB.
+     * All its pages are the same page of zeros. */
     const std::size_t huge = std::size_t{1} << 32;
     void *const pages = mmap(nullptr, huge, PROT_READ, MAP_PRIVATE | MAP_ANONYMOUS | MAP_NORESERVE, -1, 0);
     want("pages", pages != MAP_FAILED);
@@ -148,13 +148,13 @@ static void answers() {
     }
     want("nothing large is allocated", largest < 1 << 20);
     munmap(pages, huge);
-    /* Words, passed as bytes: their size in bytes isn't the number of words. */
+    /* Words are passed as bytes. Their size in bytes differs from the number of words. */
     const std::vector<std::uint64_t> counted = {2ull << 32, 5, 0};
     want("the bytes of words", capn::as_bytes(counted).size() == 24
                                    && capn::check(capn::as_bytes(counted), form::bare).paid == 3);
 }
 
-/* A message in segments: a vector, an array and a span of them, and the calls that copy them first. */
+/* A message in segments is passed as a vector, an array and a span. Some calls copy the segments first. */
 static void pieces() {
     const std::string far = words({2 | 1ull << 32}), rest = words({1ull << 32, 5});
     const std::vector<capn_segment> two = {{far.data(), 1}, {rest.data(), 2}};
@@ -190,14 +190,14 @@ static void pieces() {
     };
     want("the first one", which(loop, none) == "TooDeep0");
     want("the second one", which(two, loop) == "TooDeep1");
-    /* Segments that are too long by their lengths are not copied. */
+    /* Segments are not copied if their lengths show that they are too long. */
     const capn_segment long_one[] = {{rest.data(), std::size_t{1} << 60}, {rest.data(), std::size_t{1} << 60}};
     want("too long", thrown<capn::refusal>([&] { capn::show(long_one); }).rfind("frame: TooManyWords", 0) == 0);
     want("too long for bytes", capn::segments(long_one).bytes_in_all() > 8ull << 28);
 }
 
-/* Canonical bytes in a buffer, with scratch that the caller passes: for few segments, for packed bytes, and for many
- * segments. */
+/* Canonical bytes are written into a buffer, with scratch that the caller passes. The messages have few segments, are
+ * packed, or have many segments. */
 static void lent() {
     using capn::form;
     const std::string message = framed(words({1ull << 32, 5})), wanted(capn::bytes(capn::canonical(message)).chars());
@@ -223,7 +223,7 @@ static void lent() {
                        == CAPN_BAD_LIMITS);
 }
 
-/* Two messages: with the same value in other layouts, with different values, and one that is rejected. */
+/* Compares two messages. They have the same value in other layouts, or different values, or one is rejected. */
 static void comparisons() {
     using capn::form;
     const std::string tight = framed(words({1ull << 32, 5})), other = framed(words({1ull << 32, 6}));
@@ -252,11 +252,11 @@ static void comparisons() {
                        == "a limit is out of its range");
 }
 
-/* The path to an error, and the first difference from the canonical form for a message that is accepted. */
+/* Tests the path to an error, and the first difference from the canonical form of an accepted message. */
 static void ways() {
     using capn::form;
-    /* A struct whose pointer 1 refers to a list of two structs. The second struct has a pointer to more bytes than the
-     * message has. */
+    /* A struct with a pointer 1 that refers to a list of two structs. The second of these has a pointer to more bytes
+     * than the message has. */
     const std::uint64_t too_long = 1 | 2ull << 32 | 99ull << 35;
     const std::string wrong = framed(words({2ull << 48, 0, 1 | 7ull << 32 | 2ull << 35, 8 | 1ull << 48, 0, too_long}));
     const auto way = capn::refusal_way(wrong);
@@ -377,11 +377,11 @@ static void streams() {
     want("the cut one", thrown<capn::refusal>([&] { reader.next(); }) == "message 2 at 32: frame: Cut");
 }
 
-/* A mistake of the reader's function isn't an error of the message, and no byte that the function didn't write is read.
-   */
+/* A mistake of the reader's function isn't reported as an error of the message. No byte that the function didn't write
+ * is read. */
 static void readers() {
-    /* The function has returned the table, and not yet the rest. Then it returns what its system call returns for an
-     * error. */
+    /* The function's first call returns the segment table. Its second call returns too large a number, such as the -1
+     * of a system call that failed. */
     const std::string all = one + one;
     for (const std::size_t wrong : {static_cast<std::size_t>(-1), std::size_t{25}, std::size_t{1} << 20}) {
         std::size_t at = 0, calls = 0;
@@ -397,7 +397,7 @@ static void readers() {
         const auto message = reader.next();
         want("nothing is lost", message && message->chars() == one && reader.next()->chars() == one && !reader.next());
     }
-    /* The same over a pipe without bytes, with a function that calls read(2) and doesn't test for errors. */
+    /* Reads a pipe without bytes. The function calls read(2) and doesn't test for errors. */
     int ends[2];
     want("a pipe", pipe(ends) == 0 && fcntl(ends[0], F_SETFL, O_NONBLOCK) == 0 && write(ends[1], one.data(), 8) == 8);
     capn::reader forgetful([&](std::byte *to, std::size_t most) {
@@ -405,7 +405,7 @@ static void readers() {
     });
     want("an error that was forgotten", thrown<capn::read_error>([&] { (void)forgetful.next(); })
                                             != "nothing");
-    /* The right way to report the error: by an exception, an optional and an expected. */
+    /* The right ways to report the error: an exception, an optional and an expected. */
     capn::reader careful([&](std::byte *to, std::size_t most) -> std::optional<std::size_t> {
         const ssize_t came = ::read(ends[0], to, most);
         return came < 0 ? std::nullopt : std::optional<std::size_t>(came);
@@ -421,7 +421,7 @@ static void readers() {
     want("an expected", !why && why.error().status() == capn::read_failed && !why.error().is_refusal()
                             && why.error().name() == std::string("ReadFailed"));
 
-    /* A message that is rejected, and the next one after it: number, offset and error of each. */
+    /* After a rejected message comes another message. Tests the number, the offset and the error of each. */
     const std::string mixed = one + hostile + one + hostile + cut;
     const auto from = [&mixed](std::size_t most_at_once) {
         return [&mixed, most_at_once, at = std::size_t{0}](std::byte *to, std::size_t most) mutable {
@@ -480,7 +480,7 @@ static void readers() {
                           });
                       }) == "message 5 at 96: frame: Cut");
     want("all in memory", told == "1 0 good, 2 32 bad, 3 48 good, 4 80 bad, ");
-    /* An invalid table ends the stream. Each later call reports it again. */
+    /* An invalid table ends the stream. Each later call reports the same error. */
     const std::string damaged = one + std::string(8, '\xff') + one;
     std::size_t at = 0;
     capn::reader ended([&](std::byte *to, std::size_t most) {
@@ -504,8 +504,8 @@ static void readers() {
     want("nothing of it is left", first.number() == 0 && first.offset() == 0);
 }
 
-/* Streams of packed messages: each message packed alone, and all of them packed as one, so that groups cross from one
-   message to the next. */
+/* Streams of packed messages. Each message is packed alone, or all are packed together, so that groups cross from one
+ * message to the next. */
 static void packed_streams() {
     const auto text = [](const std::string &message) { return std::string(capn::bytes(capn::pack(message)).chars()); };
     std::string lengthy = framed(words({1 | 1ull << 32 | 2400ull << 35}));
@@ -568,7 +568,7 @@ static void packed_streams() {
                 want("where", error.report().at < size && (whole == 0 || error.report().at >= ends[whole - 1]));
         }
     }
-    /* A few packed bytes that unpack to many words: no more is unpacked than the message that was announced. */
+    /* A few packed bytes unpack to many words. The reader unpacks no more than the message that was announced. */
     std::string bomb = text(framed(words({0})));
     for (int i = 0; i < 4000; i++) bomb += std::string("\0\xff", 2);
     std::size_t at = 0, asked = 0;
@@ -601,8 +601,8 @@ static void packed_streams() {
                                                == "message 1 at 0: frame: TooManyWords(4)");
 }
 
-/* Over a socket whose peer waits for a reply to each message. The reader doesn't wait once a message is complete, and
- * takes no byte after the messages. */
+/* Reads a socket. The peer waits for a reply to each message. The reader must not wait once a message is complete, and
+ * must not take bytes after the messages. */
 static void sockets() {
     int ends[2];
     want("a socket", socketpair(AF_UNIX, SOCK_STREAM, 0, ends) == 0);
@@ -629,7 +629,7 @@ static void sockets() {
     close(ends[1]);
 }
 
-/* The compiler rejects programs whose bytes are gone before they are used. */
+/* The compiler rejects programs that use bytes after their owner is gone. */
 template <class T, class = void> constexpr bool has_root = false;
 template <class T> constexpr bool has_root<T, std::void_t<decltype(std::declval<T>().root())>> = true;
 template <class T, class = void> constexpr bool is_indexed = false;
@@ -645,8 +645,8 @@ static_assert(is_indexed<std::span<const std::byte>>);
 #endif
 
 static void fields() {
-    /* A struct of a word and two pointers: `x @0 :UInt64 = 7`, a text, and structs of a newer writer in place of
-       numbers. */
+    /* A struct of a word and two pointers. Its fields are `x @0 :UInt64 = 7`, a text, and structs of a newer writer in
+     * place of numbers. */
     const std::string message = framed(words({1ull << 32 | 2ull << 48, 5 ^ 7, 5 | 0x22ull << 32, 5 | 0x17ull << 32,
                                               0x636261, 8 | 1ull << 32, 3, 4}));
     const capn::index index = capn::index::of(message);
@@ -667,7 +667,7 @@ static void fields() {
     want("a packed one", thrown<std::invalid_argument>([&] { capn::index::of(one, capn::form::packed); })
                              == "the call doesn't take this form");
     want("a refused one", thrown<capn::refusal>([] { capn::index::of(cut); }) == "frame: Cut");
-    /* More pointers than the entries that are tried first. */
+    /* This message has more pointers than the entries that are tried first. */
     std::string many = words({200ull << 48});
     for (int i = 0; i < 200; i++) many += words({0});
     std::string wide(8, '\0');
@@ -676,8 +676,8 @@ static void fields() {
     want("many slots", capn::index::of(whole).size() == 201);
 }
 
-/* Canonical bytes leave out a section that is zero in each struct of a list. A reader that reads the list as numbers or
-   as pointers gets zeros and nulls, as from the original list. */
+/* Canonical bytes leave out a section that is zero in each struct of a list. A reader may read the list as numbers or
+ * as pointers. It gets zeros and nulls, as from the original list. */
 static void canonical_lists() {
     const auto all = [](const capn::numbers<std::uint16_t> &numbers) {
         return std::vector<std::uint16_t>(numbers.begin(), numbers.end());
@@ -697,8 +697,8 @@ static void canonical_lists() {
         for (const capn::record one : list.pointers()) count += one.slot(0).is_null();
         want("nulls", count == 2);
     }
-    /* Structs that have only pointers are read as zeros or as these pointers, and structs that have only words as these
-     * numbers or as nulls. */
+    /* Structs that have only pointers can be read as zeros or as these pointers. Structs that have only words can be
+     * read as these numbers or as nulls. */
     const std::string pointed = framed(words({1ull << 48, 0x1700000001, 8 | 1ull << 48, 0, 3 | 9ull << 32}));
     const capn::index index = capn::index::of(pointed);
     const capn::rows rows = index.root().as_struct().slot(0).pointers();
@@ -709,7 +709,7 @@ static void canonical_lists() {
     want("the capability", last == 9);
     want("zeros beside pointers", all(index.root().as_struct().slot(0).list<std::uint16_t>())
                                       == std::vector<std::uint16_t>{0, 0});
-    /* Lists of other numbers aren't read so. */
+    /* Lists of numbers of another width are rejected. */
     const std::string bytes_of_it = framed(words({1ull << 48, 1 | 0x12ull << 32, 0x0201}));
     const capn::index other = capn::index::of(bytes_of_it);
     const capn::value data = other.root().as_struct().slot(0);
@@ -727,7 +727,7 @@ static void canonical_lists() {
     want("a wider field has its default", field == 7 && narrow == (5 ^ 7));
 }
 
-/* Lists are ranges of the standard library, and so is a reader. */
+/* Lists and readers are ranges of the standard library. */
 static void ranges() {
     const std::string message = framed(words({2ull << 48, 5 | 0x23ull << 32, 5 | 0x17ull << 32, 0x0004000300020001,
                                               8 | 1ull << 32, 30, 40}));
@@ -771,7 +771,7 @@ static void ranges() {
 #endif
 }
 
-/* An object is empty after it was moved from. */
+/* An object that was moved from is empty. */
 static void moves() {
     capn::index from = capn::index::of(one);
     const capn::index to = std::move(from);

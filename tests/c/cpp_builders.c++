@@ -1,6 +1,6 @@
 // Tests capn_kj.hpp on builders of the reference implementation.
 //
-// For the segments of a builder, it has to return the implementation's own canonical form.
+// For the segments of a builder, it has to return the reference implementation's own canonical form.
 //
 //     cpp_builders SEED COUNT   so many builders of two segments or more, and the others that come between them
 #include "capn_kj.hpp"
@@ -64,7 +64,7 @@ void want(const char *what, bool is) {
 
 bool equal(capn::bytes a, capn::bytes b) { return std::equal(a.begin(), a.end(), b.begin(), b.end()); }
 
-/* Tests one builder. Returns true if it has several segments. */
+/* Tests one builder. Returns true if the builder has several segments. */
 bool try_one() {
     capnp::MallocMessageBuilder message(1 + below(40), below(4) ? capnp::AllocationStrategy::FIXED_SIZE
                                                                 : capnp::AllocationStrategy::GROW_HEURISTICALLY);
@@ -94,7 +94,7 @@ bool try_one() {
     return held.size() > 1;
 }
 
-/* An array of segments may have a null segment between two others. The root leads to the last segment. */
+/* A null segment may be between two others in an array of segments. The root leads to the last segment. */
 void try_null_segment() {
     const std::uint64_t first = 2 | 2ull << 32, last[] = {1ull << 32, 5};
     const auto of = [](const std::uint64_t *words, std::size_t count) {
@@ -111,7 +111,7 @@ void try_null_segment() {
     }
 }
 
-/* Segments that no builder makes: the error, and its text. */
+/* Tests the error for segments that no builder makes, and the text of this error. */
 void try_refused() {
     capnp::MallocMessageBuilder empty;
     try {

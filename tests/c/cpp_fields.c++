@@ -92,7 +92,7 @@ void show_message(capn::bytes message, bool is_new) {
     std::printf("\n");
 }
 
-// What is read from a pointer, as one number: FNV-1a, with numbers of 64 bits in place of bytes.
+// The numbers that are read from a pointer, as one number. It is FNV-1a over numbers of 64 bits instead of bytes.
 class sum {
 public:
     void add(std::uint64_t number) { sum_ = (sum_ ^ number) * 0x100000001b3; }
@@ -159,7 +159,7 @@ void show_lines(capn::value at) {
     show_part(at.try_struct(), [](sum &all, capn::record from) { all.add(from); });
     show_part(at.try_text("none"), [](sum &all, std::string_view text) { all.add(capn::bytes(text)); });
     show_part(at.try_data(), [](sum &all, capn::bytes data) { all.add(data); });
-    // A list of elements without size can be read as a list of structs, and as nothing else.
+    // A list whose elements have no size can only be read as a list of structs.
     const bool is_void = at.is_null() || at.kind() == capn::kind::voids || at.kind() == capn::kind::rows;
     if (is_void) show_part(at.try_structs(), [](sum &all, capn::rows list) { all.add(list.size()); });
     else std::printf(" -");
@@ -184,7 +184,8 @@ void show_lines(capn::value at) {
         }
 }
 
-// The messages of mixed.py, each with its length before it, and in memory of exactly its length.
+// Shows the messages of mixed.py. Before each message stands its length. Each is copied to memory of exactly its
+// length.
 void show_mixed(const std::string &all) {
     for (std::size_t from = 0; from + 4 <= all.size();) {
         std::uint32_t size;

@@ -1,8 +1,8 @@
-// Programs that must not compile with capn.hpp, and right programs that must.
+// Programs that must not compile with capn.hpp, and right programs that must compile.
 //
-// Each number of CASE adds a program that would read bytes that are gone, or mistake one number for another. A compiler
-// has to reject it, and its message has to have the word before the colon. Only clang sees the cases of `dangling`, and
-// it warns. Without CASE only the right programs are left. `tests/c/languages` compiles each.
+// Each number of CASE adds a program that would read bytes after their owner is gone, or that confuses two numbers. A
+// compiler has to reject it, and its message has to contain the word before the colon. Only clang warns about the cases
+// of `dangling`. Without CASE, the file has only the right programs. `tests/c/languages` compiles each case.
 #include "capn.hpp"
 #ifdef WITH_KJ
 #include "capn_kj.hpp"
@@ -16,7 +16,7 @@
 
 std::vector<std::byte> make_vector();
 std::string make_string();
-/* A type with bytes of its own, which are copied as they are. */
+/* A type that contains its bytes. They are copied with it. */
 struct packet {
     std::byte held[64];
     std::size_t length;

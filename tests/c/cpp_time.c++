@@ -1,7 +1,7 @@
-// Compares the time of each call of capn.hpp with that of C's.
+// Compares the time of each call of capn.hpp with the time of the same call in C.
 //
-// cpp_time [MOST] fails if a call takes more than MOST times as long as the calls of capn.h that it makes: the shortest
-// of many rounds, in which both take turns.
+// cpp_time [MOST] fails if a call takes more than MOST times as long as the calls of capn.h that it makes. It compares
+// the shortest times of many rounds, in which both take turns.
 #include "capn.hpp"
 #include <chrono>
 #include <cstdio>
@@ -20,8 +20,8 @@ template <class Call> double once(unsigned times, Call call) {
     return took.count() / times;
 }
 template <class C, class Plus> void beside(const char *name, std::size_t size, C c, Plus plus) {
-    /* The rounds are short, so that many are not interrupted. There are more of them as long as the times are too long.
-     * */
+    /* The rounds are short, so most of them are not interrupted. More rounds are run while the times are above the
+     * limit. */
     const unsigned times = static_cast<unsigned>(1 + 200 / (1 + once(3, c) / 1000));
     double least = 1e18, least_plus = 1e18;
     for (int attempt = 0; attempt < 20 && (attempt == 0 || least_plus > most * least); attempt++)
@@ -33,8 +33,8 @@ template <class C, class Plus> void beside(const char *name, std::size_t size, C
     failed |= least_plus > most * least;
 }
 
-/* A message of a list of this many structs, each of a word and a pointer to a text of 8 bytes, or of a list of bytes.
- * */
+/* A message of a list of this many structs, or of a list of bytes. Each struct has a word and a pointer to a text of 8
+ * bytes. */
 std::vector<std::uint64_t> message_of(std::size_t rows, std::size_t bytes) {
     std::vector<std::uint64_t> words = {0};
     if (bytes) {
@@ -106,7 +106,7 @@ int main(int count, char **words) {
     times(message_of(15, 0));
     times(message_of(40000, 0));
     times(message_of(0, 1000000));
-    /* A stream of short messages. */
+    /* Reads a stream of short messages. */
     std::vector<std::uint64_t> all;
     for (int i = 0; i < 1000; i++)
         for (const std::uint64_t word : message_of(15, 0)) all.push_back(word);

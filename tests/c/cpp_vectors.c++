@@ -1,6 +1,6 @@
 // Makes the calls of standard input by capn.hpp, and writes the results.
 //
-// They are written in the form of the stored answers, as vectors.c writes them. Each call on a stream is made on its
+// The results have the form of the stored answers, as vectors.c writes them. Each call on a stream is made on its
 // segments, too.
 #include "capn.hpp"
 #include <cstdio>
@@ -32,7 +32,7 @@ capn::form form_of(const std::string &word) {
     return word == "packed" ? capn::form::packed : word == "bare" ? capn::form::bare : capn::form::stream;
 }
 
-/* The text of an error, without the place that for_each adds. Calls that pack or unpack name no form. */
+/* Returns the text of an error without the place that for_each adds. Errors of packing and unpacking name no form. */
 std::string refused(const capn::refusal &why, bool of_packing) {
     std::string text = capn::refusal(why.status(), why.report()).what();
     for (const std::string form : {"bare: ", "packed: "})
@@ -43,7 +43,7 @@ std::string refused(const capn::refusal &why, bool of_packing) {
     return text;
 }
 
-/* The segments of a stream whose table is valid. */
+/* Returns the segments of a stream. The segment table must be valid. */
 std::vector<std::vector<std::byte>> segments_of(capn::bytes stream) {
     const auto number = [&](std::size_t at) {
         std::size_t out = 0;
@@ -83,8 +83,8 @@ std::string checked(const capn::checked &it, const capn_figures &figures) {
     return "paid " + std::to_string(it.paid) + ", visits " + std::to_string(it.visits);
 }
 
-/* The result for the bytes. If they are a stream whose table is valid, the call on the segments has to return the same.
- * */
+/* Returns the result for the bytes. If they are a stream with a valid table, the call on its segments has to return the
+ * same. */
 template <class Call> std::string both(capn::bytes message, capn::form form, const capn::limits &limits, Call call) {
     const std::string told = answered([&] { return call(message, form); });
     if (form != capn::form::stream) return told;

@@ -1,4 +1,4 @@
-// Paths to errors, and first differences from the canonical form, by capn.hpp.
+// Prints paths to errors, and first differences from the canonical form, by capn.hpp.
 //
 // It answers each call of standard input that has limits in the form of `ways answers`.
 #include "capn.hpp"

@@ -1,6 +1,6 @@
-/* Tests calls whose limits, report or `which` is null, or several of these. Each call must return, write and report
- * what it does with the default limits and with all pointers set. The inputs are the bytes at the end of each line
- * of standard input, in hexadecimal, read in each form. */
+/* Tests calls with one or more null pointers among limits, report and `which`. Each call must return, write and report
+ * what it does with the default limits and with all pointers set. The inputs are the bytes at the end of each line of
+ * standard input, in hexadecimal, read in each form. */
 #define TEST "defaults"
 #include "wanted.h"
 
@@ -45,7 +45,7 @@ CALL(show, INPUT, CAPN_STYLE_TEXT, g->out.text, ROOM, g->report)
 CALL(refusal_way, INPUT, g->out.way, WAY, g->report)
 CALL(departure, INPUT, &g->out.departs.departed, g->out.departs.way, WAY, g->report)
 
-/* The second message is half of the bytes, and then all of them. */
+/* Compares a message with its first half, and with itself. */
 static capn_status try_same(struct given *g) {
     return capn_same(g->form, g->bytes, g->size, g->bytes, g->size / 2, g->limits, g->which, g->report);
 }
@@ -53,7 +53,7 @@ static capn_status try_same_as_itself(struct given *g) {
     return capn_same(g->form, g->bytes, g->size, g->bytes, g->size, g->limits, g->which, g->report);
 }
 
-/* The words in two segments, so that some pointers lead out of their segment. */
+/* Splits the words into two segments, so that some pointers lead out of their segment. */
 #define HALVES {{g->bytes, g->size / 16}, {g->bytes + 8 * (g->size / 16), g->size / 8 - g->size / 16}}
 #define HELD(name, ...) \
     static capn_status try_##name##_segments(struct given *g) { \
@@ -80,7 +80,7 @@ enum { CALLS = sizeof calls / sizeof *calls };
 
 static unsigned long long answered, refused;
 
-/* Makes a call with limits and a report, and then with each of them null, and both. */
+/* Makes a call with all pointers set, and then with each combination of null pointers. */
 static void compare(size_t call, uint32_t form, const uint8_t *bytes, size_t size) {
     static struct given with, without;
     capn_report wanted, got;
@@ -118,7 +118,7 @@ int main(void) {
         for (size_t call = 0; call < CALLS; call++)
             for (uint32_t form = 0; form < (calls[call].of_forms ? 4 : 1); form++) compare(call, form, bytes, size);
     }
-    /* Without a report the text has no place. */
+    /* Without a report, the text has no place. */
     const size_t length = capn_refusal_text(CAPN_RANGE, NULL, text, sizeof text);
     want("the text without a report", strcmp(text, capn_status_text(CAPN_RANGE)), 0);
     want("its length", length, strlen(text));

@@ -1,25 +1,29 @@
-/* Fields by capn_fields.h.
+/* Tests fields by capn_fields.h.
  *
- *     fields             tests on entries that are written by hand
+ *     fields             tests entries that are written by hand
  *     fields old | new   shows each message of a stream of fields.capnp as fields.c++ does, read by one of its types
- *     fields any         reads each pointer of each message of a stream as anything, and counts what it reads
- *     fields lines       the same with the messages of mixed.py, and a line for each pointer of what is read there
+ *     fields any         reads each pointer of each message of a stream as every kind of object, and counts the
+ *                        readings that succeed
+ *     fields lines       reads the messages of mixed.py in the same way, and prints a line for each pointer
  *
- * A message that is rejected has the line `rejected: ` with the text of the error. Of another one each pointer has a
- * line, in preorder: the word of its kind, and eleven parts for what it is read as. These are a struct; a text; a data;
- * a list of elements without size; lists of numbers of 1, 8, 16, 32 and 64 bits; a list of pointers; a list of structs.
- * A part is `-` where the pointer refers to something else. Else it is a sum (FNV-1a over numbers of 64 bits, in
- * hexadecimal) of:
- *   - a struct: what a struct has, below
- *   - a text and a data: their length, and their bytes; of a null pointer the text is the default `none`
- *   - a list without size: its length
- *   - a list of numbers: its length, and its numbers, at most a thousand
- *   - a list of pointers: its length, and of each, at most twenty, the number of its kind
- *   - a list of structs: its length, and of each, at most twenty, what a struct has
- * What a struct has: its fields of 1 bit at the multiples of 5 below 256; for each width of 8, 16, 32 and 64 bits the
- * fields without sign at the multiples of it below 256; and the same with a sign. Field i of a width has the default
- * i + 1 in so many bits, or with a sign -(i + 1). Then how many pointers it has, and of the first four the numbers of
- * their kinds. */
+ * For a rejected message, `fields lines` prints `rejected: ` and the text of the error. For an accepted message, it
+ * prints a line for each pointer, in preorder. The line has the word of the pointer's kind, and a part for each of
+ * eleven readings: as a struct; as a text; as a data; as a list of elements without size; as a list of numbers of 1, 8,
+ * 16, 32 and 64 bits; as a list of pointers; and as a list of structs. A part is `-` if the pointer can't be read like
+ * this. Otherwise it is a sum in hexadecimal: FNV-1a over these numbers of 64 bits:
+ *   - for a struct, the numbers of a struct (see below)
+ *   - for a text and a data, the length and the bytes; a null pointer has the default text `none`
+ *   - for a list without size, the length
+ *   - for a list of numbers, the length, and the first thousand numbers
+ *   - for a list of pointers, the length, and the numbers of the kinds of the first twenty pointers
+ *   - for a list of structs, the length, and the numbers of the first twenty structs
+ *
+ * The numbers of a struct are the following, in this order:
+ *   - its fields of 1 bit at the multiples of 5 below 256
+ *   - for each width of 8, 16, 32 and 64 bits, the unsigned fields at the multiples of the width below 256
+ *   - for each of these widths, the signed fields at the same places
+ *   - the number of its pointers, and the numbers of the kinds of its first four pointers
+ * Field i of a width has the default i + 1, or -(i + 1) if it is signed, in as many bits as the field has. */
 #include "capn_fields.h"
 #include <inttypes.h>
 #include <stdio.h>
@@ -46,7 +50,7 @@ static void show_text(const capn_entry *entry, const char *fallback) {
 }
 static void show_int(int64_t number) { printf("%" PRId64 ";", number); }
 
-/* A Point, or with `more` a Placed. */
+/* Shows a Point. If `more` is set, it is a Placed. */
 static void show_point(const capn_record *point, int more) {
     show_int(capn_field_int(point, 0, 32, 0));
     show_int(capn_field_int(point, 32, 32, -1));
@@ -138,7 +142,7 @@ static void show_message(const capn_entry *entries, int is_new) {
     printf("\n");
 }
 
-/* Fields and slots of a struct, within it and beyond. */
+/* Reads fields and pointers of a struct, inside the struct and beyond its end. */
 static uint64_t read_record(const capn_record *record) {
     static const uint32_t widths[] = {1, 8, 16, 32, 64};
     uint64_t sum = 0;
@@ -154,7 +158,7 @@ static uint64_t read_record(const capn_record *record) {
 
 static volatile uint64_t kept; /* so that what is read is used */
 
-/* How many of these an entry can be read as: the struct, the text, the data, and each kind of list. */
+/* Returns in how many ways an entry can be read: as a struct, as a text, as a data, and as each kind of list. */
 static int read_any(const capn_entry *entry) {
     capn_record record;
     capn_items items;
@@ -257,7 +261,7 @@ static void show_line(const capn_entry *entry) {
 
 /* ---- streams */
 
-/* The entries of a message, and how many they are; NULL if it is rejected. */
+/* Returns the entries of a message, and sets their number. Returns NULL if the message is rejected. */
 static capn_entry *entries_of(const uint8_t *message, size_t size, uint32_t *count, capn_status *status,
                               capn_report *report) {
     const capn_limits limits = CAPN_USUAL_LIMITS;
@@ -279,14 +283,14 @@ static uint8_t *all_of_input(size_t *have) {
     return all;
 }
 
-/* In memory of exactly its length, so that a sanitizer sees a read past it. */
+/* Copies the bytes to memory of exactly their length, so that a sanitizer detects a read past the end. */
 static uint8_t *alone(const uint8_t *from, size_t size) {
     uint8_t *message = malloc(size);
     if (size) memcpy(message, from, size);
     return message;
 }
 
-/* Each message of mixed.py, with its length before it. */
+/* Prints the lines for each message of mixed.py. Before each message stands its length. */
 static int show_lines(void) {
     size_t have;
     uint8_t *all = all_of_input(&have);
@@ -313,7 +317,7 @@ static int show_lines(void) {
     return failed != 0;
 }
 
-/* Each message of a stream. */
+/* Reads or shows each message of a stream. */
 static int show_stream(const char *as) {
     const int is_any = !strcmp(as, "any");
     const capn_limits limits = CAPN_USUAL_LIMITS;
@@ -345,7 +349,7 @@ static int show_stream(const char *as) {
     return failed != 0;
 }
 
-/* `x @0 :UInt64 = 7` in a struct of this many words. Its first word is `stored`. */
+/* A struct of this many words with the field `x @0 :UInt64 = 7`. Its first word is `stored`. */
 static uint64_t of_words(uint16_t words, uint64_t stored) {
     const capn_entry entry = {0, 0, 1, words, 0, CAPN_KIND_STRUCT};
     capn_record record;
@@ -355,7 +359,7 @@ static uint64_t of_words(uint16_t words, uint64_t stored) {
     return capn_field(&record, 0, 64, 7);
 }
 
-/* The words of a message of one segment, after its table. */
+/* Writes a message of one segment with these words after its table. */
 static size_t message(uint8_t *to, const uint64_t *words, size_t count) {
     memset(to, 0, 8);
     to[4] = (uint8_t)count;
@@ -363,8 +367,8 @@ static size_t message(uint8_t *to, const uint64_t *words, size_t count) {
     return 8 + 8 * count;
 }
 
-/* The list in the only pointer of the root: two structs, the same value with and without words of zeros. A schema from
- * before the list was upgraded has numbers or pointers there. */
+/* The only pointer of the root refers to a list of two structs. The list has the same value with and without zero
+ * words. A reader with an older schema reads numbers or pointers there. */
 static void two_of_zeros(const uint64_t *words, size_t count) {
     uint8_t data[64];
     capn_entry all[8];
@@ -390,7 +394,7 @@ static void two_of_zeros(const uint64_t *words, size_t count) {
     want("structs as bits", capn_list(data, capn_slot(&root, 0), CAPN_KIND_BITS, &items), 0);
 }
 
-/* Equal values read alike: structs that are too short for a number or a pointer have zero or null there. */
+/* Equal values give equal results: if a struct is too short for a number or a pointer, zero or null is read. */
 static void by_another_schema(void) {
     static const uint64_t a_word[] = {1ull << 48, 0x1700000001, 0x100000008, 0, 0};
     static const uint64_t a_pointer[] = {1ull << 48, 0x1700000001, 0x1000000000008, 0, 0};
@@ -403,7 +407,7 @@ static void by_another_schema(void) {
     want("the same", capn_same(CAPN_STREAM, one, message(one, a_word, 5), other, size, NULL, NULL, NULL), CAPN_OK);
     want("the same", capn_same(CAPN_STREAM, one, message(one, a_pointer, 5), other, size, NULL, NULL, NULL), CAPN_OK);
 
-    /* A list of bytes, read as structs: a field that is wider than an element has its default. */
+    /* A list of bytes is read as structs. A field that is wider than an element has its default. */
     static const uint64_t bytes_of_older[] = {1ull << 48, 1 | (2 | 1 << 3) * (1ull << 32), 5};
     capn_entry all[2];
     capn_record root, row;
@@ -423,7 +427,7 @@ static void by_hand(void) {
     want("what is stored for 7", (int64_t)of_words(1, 0), 7);
     want("no word", (int64_t)of_words(0, 0), 7);
 
-    /* Each bit and each width of two words, compared with reading the single bits. */
+    /* Reads each bit and each width of two words, and compares them with reading the single bits. */
     uint8_t data[16];
     for (int i = 0; i < 16; i++) data[i] = (uint8_t)(37 * i + 11 * i * i + 201);
     capn_record record = {data, NULL, 128, 0};
@@ -441,7 +445,7 @@ static void by_hand(void) {
         }
     want("far beyond", (int64_t)capn_field(&record, UINT32_MAX, 64, 9), 9);
 
-    /* The number of entries of an index, and that no smaller array is enough. */
+    /* Tests the number of entries of an index. No smaller array is enough. */
     static const uint8_t nested[] = {0, 0, 0, 0, 4, 0, 0, 0, 0, 0, 0, 0, 0, 0, 2, 0, 4, 0, 0, 0, 0, 0, 1, 0,
                                      0, 0, 0, 0, 0, 0, 0, 0, 0, 0, 0, 0, 0, 0, 0, 0};
     const capn_limits usual = CAPN_USUAL_LIMITS;
@@ -458,7 +462,7 @@ static void by_hand(void) {
     want("no entries", (int64_t)count, 0);
     want("a packed one", capn_count_entries(CAPN_PACKED, nested, 20, &usual, &count, NULL), CAPN_BAD_FORM);
 
-    /* A text: only bytes with a zero at their end. */
+    /* A list of bytes is a text only if its last byte is zero. */
     static const uint8_t abc[] = {'a', 'b', 'c', 0, 'd'};
     const char *text;
     size_t length;
@@ -474,7 +478,7 @@ static void by_hand(void) {
     entry.kind = CAPN_KIND_U16;
     want("other numbers", capn_text(abc, &entry, &text, &length), 0);
 
-    /* Which kind of list can be read as which: each kind in place of each, with two elements. */
+    /* Tests which kind of list can be read as which. Each kind is read as each other kind, with two elements. */
     static const char *const taken[] = { /* wanted void bits bytes u16 u32 u64 pointers rows, found the same */
         "1......1", ".1......", "..1....1", "...1...1", "....1..1", ".....1.1", "......11", "1.111111"};
     static const int64_t full[] = {0, 1, 0xff, 0xffff, 0xffffffff, -1}; /* numbers whose bits are all 1, from void on */

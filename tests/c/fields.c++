@@ -21,7 +21,7 @@ std::mt19937_64 source;
 uint64_t below(uint64_t most) { return source() % most; }
 bool is_set() { return below(4) != 0; }
 
-/* A number of this type: any bits, a small one, or 0. */
+/* Returns a number of this type: any bits, a small number, or 0. */
 template <typename T> T number() {
     if (below(4) == 0) return T(below(10));
     const uint64_t bits = below(6) ? source() : 0;

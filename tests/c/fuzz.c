@@ -1,7 +1,7 @@
-/* Passes any bytes to every call, in each form. The calls must agree with one another, and read nothing outside of the
- * bytes. The program takes the bytes at the end of each line of standard input, in hexadecimal, and copies of them with
- * some bytes changed, by a fixed seed. A fuzzer calls LLVMFuzzerTestOneInput:
- * clang -DFUZZER -fsanitize=fuzzer,address -I c tests/c/fuzz.c build/libcapn.a */
+/* Passes any bytes to every call, in each form. The calls must agree with one another, and must read nothing outside of
+ * the bytes. The program takes the bytes at the end of each line of standard input, in hexadecimal, and copies of them
+ * with some bytes changed, by a fixed seed. A fuzzer calls LLVMFuzzerTestOneInput: clang -DFUZZER
+ * -fsanitize=fuzzer,address -I c tests/c/fuzz.c build/libcapn.a */
 #include "usual.h"
 #include <stdio.h>
 #include <stdlib.h>
@@ -17,7 +17,7 @@ static void need(int holds, const char *what, const uint8_t *bytes, size_t size)
     abort();
 }
 
-/* For a message that check accepts: canonical, hash and is_canonical agree on its canonical bytes, and on its cost. */
+/* Tests a message that check accepts: canonical, hash and is_canonical agree on its canonical bytes and on its cost. */
 static void accepted(uint32_t form, const uint8_t *bytes, size_t size, const capn_report *checked, size_t enough) {
     uint8_t *out = malloc(enough), digest[2][32];
     capn_report report;
@@ -43,7 +43,7 @@ static void accepted(uint32_t form, const uint8_t *bytes, size_t size, const cap
     free(again);
 }
 
-/* How many bytes of content an entry describes. */
+/* Returns how many bytes of content an entry describes. */
 static uint64_t content(const capn_entry *e) {
     const uint64_t object = 8 * ((uint64_t)e->words + e->slots);
     switch (e->kind) {
@@ -58,8 +58,8 @@ static uint64_t content(const capn_entry *e) {
     }
 }
 
-/* Tests the entry at i and all below it. The content lies within the bytes. The pointers of the object have entries one
- * after the other, and the span ends with the last of them. The entry of a null pointer is null. */
+/* Tests the entry at i and all entries below it. Its content lies within the bytes. The entries of the object's
+ * pointers follow one another, and the span ends with the last of them. A null pointer has a null entry. */
 static void entry(const capn_entry *all, size_t count, size_t i, const uint8_t *bytes, size_t size) {
     const capn_entry *e = &all[i];
     need(e->span >= 1 && e->span <= count - i, "a span", bytes, size);
@@ -159,7 +159,7 @@ static void message(uint32_t form, const uint8_t *bytes, size_t size) {
     need(!memcmp(&report, &hashed, sizeof report), "the reports of a refusal", bytes, size);
 }
 
-/* Takes any bytes as packed ones: what they unpack to is packed, and unpacked again. */
+/* Unpacks any bytes as packed bytes. Packs the result, and unpacks it again. */
 static void packing(const uint8_t *bytes, size_t size) {
     static uint8_t words[1 << 16], again[1 << 16], text[10 * (1 << 13)];
     capn_report report, other;

@@ -1,5 +1,6 @@
-"""Writes calls for tests/c/vectors. Their inputs are a thousand messages that `tests/reference/generated` makes from a
-fixed seed, most of them hostile or changed, and the hostile inputs of `tests/reference/hostile`."""
+"""Writes calls for tests/c/vectors. Their inputs are a thousand messages and the hostile inputs of
+`tests/reference/hostile`. `tests/reference/generated` makes the messages from a fixed seed. Most of them are hostile or
+changed."""
 import random
 from importlib.machinery import SourceFileLoader
 from importlib.util import module_from_spec, spec_from_loader
@@ -9,7 +10,7 @@ REFERENCE = Path(__file__).resolve().parents[1] / "reference"
 
 
 def script(name):
-    """Returns a program of tests/reference, as a module."""
+    """Returns a program of tests/reference as a module."""
     spec = spec_from_loader(name, SourceFileLoader(name, str(REFERENCE / name)))
     module = module_from_spec(spec)
     spec.loader.exec_module(module)

@@ -1,12 +1,12 @@
-/* Tests the index of a message that has each kind of object, written by hand: with each number of entries, without a
- * table, in one segment and in three, at any address, beside pages that can't be accessed. (tests/c/fuzz.c reads the
- * indexes of many messages.) */
+/* Tests the index of a message that has each kind of object. The message is written by hand, without a table, in one
+ * segment or in three. It lies at any address, next to pages that can't be accessed. The array has each number of
+ * entries. (tests/c/fuzz.c reads the indexes of many messages.) */
 #define TEST "index"
 #include "wanted.h"
 
 enum { COUNT = 17, WORDS = 26 };
 
-/* The pointer at `from` to the list at `to`, and the one to a struct. */
+/* The pointer at `from` to the list at `to`, and the pointer at `from` to the struct at `to`. */
 static uint64_t list(uint64_t from, uint64_t to, uint64_t width, uint64_t count) {
     return 1 | (to - from - 1) << 2 | width << 32 | count << 35;
 }
@@ -14,8 +14,9 @@ static uint64_t object(uint64_t from, uint64_t to, uint64_t words, uint64_t slot
     return (to - from - 1) << 2 | words << 32 | slots << 48;
 }
 
-/* A struct of a word and eleven pointers, one to each kind of object. Among these are a list of two pointers, and a
- * list of two structs of a word and a pointer. An empty struct lies at its own pointer. */
+/* A struct of a word and eleven pointers, one for each kind of object. Two of the objects are a list of two pointers
+ * and a list of two structs with a word and a pointer. An empty struct has no words, so its pointer refers to the place
+ * of the pointer itself. */
 static void make(uint64_t *w, capn_entry *e) {
     const uint64_t words[WORDS] = {
         object(0, 1, 1, 11), 7, 0, list(3, 13, 0, 9), list(4, 13, 1, 9), list(5, 14, 2, 3), list(6, 15, 3, 3),
@@ -41,7 +42,8 @@ int main(void) {
     make(words, wanted);
     wanted[0].span = COUNT - 1;
     for (size_t segments = 0; segments <= 3; segments += segments == 0 ? 1 : 2) {
-        /* The first of three segments has only the root, a far pointer to the landing pad at the start of the third. */
+        /* The first of three segments has only the root. The root is a far pointer to the landing pad at the start of
+         * the third segment. */
         size_t table = segments == 0 ? 0 : 8 * (segments / 2 + 1), more = segments == 3 ? 8 : 0;
         size_t size = table + more + 8 * WORDS;
         for (size_t off = 0; off < 8; off++) {

@@ -1,5 +1,5 @@
-/* Tests each call with enough memory, and with bad input: no bytes, numbers out of range, buffers of each size, lengths
- * that are only announced, hostile messages. */
+/* Tests each call with enough memory and with bad input. Bad inputs are empty bytes, numbers out of range, buffers of
+ * each size, lengths without the announced bytes, and hostile messages. */
 #define TEST "inputs"
 #include "wanted.h"
 
@@ -10,7 +10,7 @@ static void blank(const char *what, const capn_report *r) {
 
 static const uint8_t message[32] = {0, 0, 0, 0, 3, 0, 0, 0, 0, 0, 0, 0, 2, 0, 0, 0, 5};
 
-/* Each call, with enough memory and large buffers: its status, its report, and each byte that it writes. */
+/* Makes each call with enough memory and large buffers. Tests its status, its report, and each byte that it writes. */
 static void answered(void) {
     const uint8_t canonical[16] = {0, 0, 0, 0, 1, 0, 0, 0, 5}, packed[8] = {0x10, 3, 0x10, 2, 1, 5};
     /* The first bytes of the SHA-256 of the canonical bytes. */
@@ -56,8 +56,8 @@ static void answered(void) {
     want("its length", r.length, 32);
 }
 
-/* Each call, with a message and buffers at any address. Each of them lies at the end of a block of exactly its
- * length, so that a sanitizer sees an access past it. */
+/* Makes each call with a message and buffers at any address. Each of them ends where its allocated block ends, so that
+ * a sanitizer detects an access past the end. */
 static void anywhere(void) {
     const uint8_t packed[8] = {0x10, 3, 0x10, 2, 1, 5};
     for (size_t off = 0; off < 8; off++)
@@ -96,8 +96,8 @@ static void anywhere(void) {
         }
 }
 
-/* A message may have 1 to 4,096 segments: each number is accepted, in each form that has segments. The first segment
- * has a null root, the others have no words. */
+/* A message may have 1 to 4,096 segments. Each number is accepted in each form that has segments. The first segment has
+ * a null root, and the others have no words. */
 static void segments(void) {
     static uint8_t frame[4 * 4097 + 4 + 8], text[2 * sizeof frame], digest[32];
     capn_report r;
@@ -206,7 +206,8 @@ static void rooms(void) {
 }
 
 static void announced(void) {
-    /* One segment of 2^28 words, announced in 8 bytes; 2^32 segments; as many segments as are allowed, and one more. */
+    /* A segment table of 8 bytes announces one segment of 2^28 words, 2^32 segments, the greatest number of segments,
+     * or one segment more. */
     const uint8_t words[8] = {0, 0, 0, 0, 0, 0, 0, 0x10}, more[8] = {0, 0, 0, 0, 1, 0, 0, 0x10};
     const uint8_t all[8] = {255, 255, 255, 255};
     const uint8_t most[8] = {0xff, 0x0f, 0, 0}, above[8] = {0, 0x10, 0, 0};
@@ -220,14 +221,14 @@ static void announced(void) {
     want("announced", r.at, 1ull << 32);
     want("4,096 segments", capn_check(CAPN_STREAM, most, 8, &greatest, &r), CAPN_FRAME_CUT);
     want("4,097 segments", capn_check(CAPN_STREAM, above, 8, &greatest, &r), CAPN_TOO_MANY_SEGMENTS);
-    /* 2^28 words of zeros, packed: each 2 bytes are a run of 256 words. */
+    /* 2^28 packed zero words. Each 2 bytes are a run of 256 words. */
     static uint8_t zeros[2 * 4096];
     for (size_t i = 0; i < sizeof zeros; i += 2) zeros[i + 1] = 255;
     want("a packed run above its maximum", capn_unpack(zeros, sizeof zeros, 256, NULL, 0, &r), CAPN_PACKED_TOO_LONG);
     want("its offset", r.at, 2);
 }
 
-/* More words than a message without a table may have: they are counted, and none is read. */
+/* More words than a message without a table may have. The call counts them and reads none. */
 static void too_long(void) {
     size_t words = (1u << 28) + 2;
     capn_report r;
@@ -244,7 +245,8 @@ static void too_long(void) {
 }
 
 static void hostile(void) {
-    /* A struct whose only pointer leads to itself, and a list of two pointers to itself: the limits end both. */
+    /* A struct whose only pointer refers to the struct itself, and a list of two pointers that both refer to the list.
+     * The limits end the traversal of each. */
     const uint8_t self[8] = {0xfc, 0xff, 0xff, 0xff, 0, 0, 1, 0};
     const uint8_t twice[24] = {1,    0,    0,  0, 0x16, 0,    0,    0,    0xfd, 0xff, 0xff, 0xff,
                                0x16, 0, 0, 0, 0xf9, 0xff, 0xff, 0xff, 0x16, 0,    0,    0};
@@ -260,7 +262,8 @@ static void hostile(void) {
     want("itself, lower budget", capn_canonical(CAPN_BARE, self, 8, &low, NULL, 0, &r), CAPN_OVER_BUDGET);
     want("paid", r.paid, 100);
     for (int i = 0; i < 32; i++) want("a digest that was refused", digest[i], 0xAA);
-    /* Each beginning of a message, and each with one byte changed: no call reads a byte past it. */
+    /* Tries each beginning of a message, and each beginning with one byte changed. No call may read a byte past the
+     * end. */
     for (size_t size = 0; size <= 32; size++)
         for (int bit = 0; bit < 256; bit++) {
             uint8_t *bytes = malloc(size ? size : 1), out[8];

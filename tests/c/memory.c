@@ -1,6 +1,6 @@
-/* Each allocation of each call fails in turn: the call returns CAPN_MEMORY, leaves the buffer unchanged and the
- * report 0, and frees all. Then every allocation of the calls that need none fails: they return what they do with
- * memory. */
+/* Fails each allocation of each call in turn. The call has to return CAPN_MEMORY, leave the buffer unchanged, set the
+ * report to 0, and free everything. Then every allocation fails for the calls that need none. These have to return what
+ * they return with memory. */
 #include "refusing.h"
 #include "usual.h"
 #include <stdio.h>
@@ -16,8 +16,8 @@ static void fail(const char *name, const char *why) {
     printf("memory: %s: %s\n", name, why);
 }
 
-/* Writes structs of two pointers, each below the first pointer of the one before, to this depth, with a number in the
- * last one. Returns how many bytes they have. */
+/* Writes a chain of structs of this depth. Each struct has two pointers, and its first pointer refers to the next
+ * struct. The last struct has a number. Returns the length in bytes. */
 static size_t chain(uint8_t *at, size_t depth) {
     memset(at, 0, 16 * depth);
     at[depth > 1 ? 6 : 4] = depth > 1 ? 2 : 1;
@@ -29,7 +29,7 @@ static size_t chain(uint8_t *at, size_t depth) {
     return 16 * depth;
 }
 
-/* Writes a message of one segment or more, all but the first without words. Returns how many bytes it has. */
+/* Writes a message of one segment or more. Only the first segment has words. Returns the length in bytes. */
 static size_t frame(uint8_t *to, uint8_t segments, const uint8_t *words, size_t size) {
     size_t table = 8 * (segments / 2 + 1);
     memset(to, 0, table);
@@ -97,7 +97,7 @@ static capn_status counted(const input *in, capn_report *report) {
     return capn_index(in->form, in->bytes, in->size, &in->limits, NULL, 0, report);
 }
 
-/* A call whose allocation fails writes nothing, and every field of its report is 0. */
+/* A call whose allocation fails must write nothing, and every field of its report must be 0. */
 static void refused(const char *name, const capn_report *report) {
     for (size_t i = 0; i < ROOM; i++)
         if (out[i] != 0xAA) {
@@ -108,7 +108,7 @@ static void refused(const char *name, const capn_report *report) {
     if (memcmp(report, &none, sizeof none)) fail(name, "reports");
 }
 
-/* Each allocation of a call fails in turn. There are at least `least`. */
+/* Fails each allocation of a call in turn. The call has to make at least `least` allocations. */
 static void each(const char *name, call *make, const input *in, int least) {
     capn_report report;
     uint32_t status = CAPN_MEMORY;
@@ -129,8 +129,8 @@ static void each(const char *name, call *make, const input *in, int least) {
     printf("memory: %s: refused %d times\n", name, count);
 }
 
-/* A call allocates `growths` times. If every allocation fails it returns CAPN_MEMORY. If it makes none, it returns
- * `wanted`, as it does with memory. */
+/* The call has to allocate `growths` times and return `wanted`. Then every allocation fails. The call has to return
+ * CAPN_MEMORY, or `wanted` if it makes no allocation. */
 static void wants(const char *name, call *make, const input *in, long growths, uint32_t wanted) {
     capn_report ample, short_of;
     left = -1;
@@ -178,8 +178,8 @@ static void in_turn(void) {
     each("departure, packed", departed, &pack, 3);
 }
 
-/* A message without a table, and one of at most 64 segments, need no memory at any depth. A message of 65 segments
- * needs one allocation, for the ends of its segments. */
+/* A message without a table, or with at most 64 segments, needs no memory at any depth. A message of 65 segments needs
+ * one allocation, for the ends of its segments. */
 static void at_depth(uint32_t most, size_t depth, uint32_t wanted) {
     const capn_limits limits = limits_of(1u << 20, 1u << 20, most, CAPN_STRICT);
     const uint32_t room = wanted == CAPN_OK ? CAPN_NO_ROOM : wanted;
@@ -222,8 +222,9 @@ static void at_depth(uint32_t most, size_t depth, uint32_t wanted) {
     wants("index, 65 segments", indexed, &more, wanted == CAPN_OK ? 2 : 1, wanted);
 }
 
-/* An error that is found before anything is kept needs no memory: no bytes to pack or unpack, no whole words, a first
- * group that is truncated or too long, a table that is truncated or announces too much. */
+/* A call needs no memory if it finds an error before it keeps anything. Such inputs are: no bytes to pack or unpack, a
+ * length that isn't a multiple of a word, a first group that is truncated or too long, and a table that is truncated or
+ * announces too much. */
 static void unread(void) {
     const uint8_t cut[9] = {255}, head[8] = {1, 0, 0, 0, 1}, count[8] = {255, 255}, whole[16] = {1}, sizes[264] = {64};
     const input nothing = {CAPN_STREAM, NULL, 0, usual}, odd = {CAPN_BARE, cut, 9, usual};

@@ -1,9 +1,10 @@
-"""Writes messages from a fixed seed, valid and hostile, each with its length before it, a number of 4 bytes.
+"""Writes valid and hostile messages from a fixed seed. Before each message stands its length, a number of 4 bytes.
 
-    mixed.py COUNT     half of them as tests/reference/generated makes them, and half changed copies of valid ones
+    mixed.py COUNT     writes COUNT messages: half of them as tests/reference/generated makes them, and half changed
+                       copies of valid ones
 
-The messages are shuffled. A change is a bit, a word, a number in the segment table, or an end that is cut off or made
-longer. So every error of a message occurs, and many changed messages are still valid."""
+The messages are shuffled. A change affects a bit, a word, or a number in the segment table, or makes the message
+shorter or longer. So every error of a message occurs, and many changed messages are still valid."""
 import random
 import struct
 import sys
@@ -13,13 +14,13 @@ from pathlib import Path
 
 REFERENCE = Path(__file__).resolve().parents[1] / "reference"
 SEED = 20260
-# The bits of a number, by the kind of its list.
+# The number of bits of a number, by the kind of its list.
 BITS = [0, 1, 8, 16, 32, 64]
 TEXTS = [b"\0", b"abc\0", "grün\0".encode(), b"\xff\xfe\0", b"no zero", b"a\0b\0"]
 
 
 def generated():
-    """Returns the program tests/reference/generated, as a module."""
+    """Returns the program tests/reference/generated as a module."""
     spec = spec_from_loader("generated", SourceFileLoader("generated", str(REFERENCE / "generated")))
     module = module_from_spec(spec)
     spec.loader.exec_module(module)
@@ -32,7 +33,8 @@ def number(rng):
 
 
 def add(words, rng, depth):
-    """Adds an object to the words of a segment. Returns its pointer, without the offset, and where it begins."""
+    """Adds an object to the words of a segment. Returns its pointer without the offset, and the place where the object
+    begins."""
     kind = rng.random() if depth else 0.3 + 0.7 * rng.random()
     begin = len(words)
     if kind < 0.3:
@@ -69,7 +71,8 @@ def add(words, rng, depth):
 
 
 def fill(words, rng, places, depth):
-    """Sets the pointers at some places of a segment: null, a capability, or an object that is added."""
+    """Sets the pointers at some places of a segment. Each becomes null, a capability, or a pointer to an object that is
+    added."""
     for place in places:
         kind = rng.random()
         if kind < 0.15:
@@ -82,7 +85,7 @@ def fill(words, rng, places, depth):
 
 
 def valid(rng):
-    """Returns the words of a valid message of one segment, whose root is not always a struct."""
+    """Returns the words of a valid message of one segment. The root isn't always a struct."""
     most = rng.choice([1, 4, 8, 16])
     words = []
     while len(words) < most:

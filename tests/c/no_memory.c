@@ -1,5 +1,6 @@
-/* Makes each call on the stored messages without a table and of at most 64 segments, while every allocation fails. No
- * call allocates, and each returns what it does with memory, with buffers of 0, of 1 byte or entry, and of many. */
+/* Makes each call while every allocation fails, on the stored messages that have no table or at most 64 segments. No
+ * call may allocate. Each has to return what it returns with memory, for an empty buffer, for a buffer of 1 byte or
+ * entry, and for a large buffer. */
 #include "capn.h"
 #include "refusing.h"
 #include <stdio.h>
@@ -48,7 +49,7 @@ static capn_status surveyed(const input *in, uint8_t *out, size_t room, capn_rep
     return capn_survey(in->form, bytes, in->size, &in->limits, (capn_figures *)(void *)out, report);
 }
 
-/* A call with memory and with none. */
+/* Makes a call with memory, and then without memory. */
 static void twice(const char *name, call *make, const input *in, size_t room) {
     capn_report with, without;
     memset(ample, 0xAA, room < 4096 ? 4096 : room);
@@ -79,7 +80,7 @@ static void each(const input *in) {
     if (in->form == CAPN_BARE) twice("is_canonical", judged, in, 0);
 }
 
-/* Whether a message has no table, or at most 64 segments. */
+/* Returns whether a message has no table, or at most 64 segments. */
 static int is_few(const input *in) {
     if (in->form == CAPN_BARE || in->size < 4) return 1;
     return bytes[0] < 64 && !bytes[1] && !bytes[2] && !bytes[3];

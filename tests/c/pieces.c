@@ -1,11 +1,12 @@
-/* Tests the version, the texts of the statuses, and the two calls that read in chunks: with each beginning of a message
- * and of packed bytes, and with each size of buffer, at any address, beside a page that can't be accessed. */
+/* Tests the version, the texts of the statuses, and the two calls that read in chunks. These calls get each beginning
+ * of a message and of packed bytes, with each size of buffer. The memory lies at any address, next to a page that can't
+ * be accessed. */
 #define TEST "pieces"
 #include "wanted.h"
 
 static uint8_t *guarded[2];
 
-/* Each status has a text of its own, and all other numbers have one text. */
+/* Each status has a text of its own. All other numbers share one text. */
 static void texts(const char *version) {
     static const capn_status all[] = {
         /* c/statuses.txt: numbers */
@@ -27,7 +28,7 @@ static void texts(const char *version) {
             want("two texts", strcmp(capn_status_text(all[i]), capn_status_text(all[j])) != 0, 1);
 }
 
-/* Writes a message of segments of these sizes, whose words are 1, 2, 3 and so on. Returns its length. */
+/* Writes a message with segments of these sizes. Its bytes are 1, 2, 3 and so on. Returns its length. */
 static size_t frame(uint8_t *out, const uint32_t *sizes, uint32_t count) {
     size_t table = 8 * (count / 2 + 1), words = 0;
     memset(out, 0, table);
@@ -48,9 +49,9 @@ static void is_first(const char *what, const uint8_t *bytes, size_t size, capn_s
     want("no more", r.at | r.paid | r.visits | r.segment | r.word, 0);
 }
 
-/* Each beginning of messages of one to five segments, at each address, with no byte after it. The length that is
- * needed is 8, then that of the table, then that of the message. Of a complete message, also with bytes after it,
- * the length is reported. */
+/* Passes each beginning of messages of one to five segments, at each address, with no byte after it. At first the call
+ * reports that it needs 8 bytes, then the length of the table, and then the length of the message. If the message is
+ * complete, with or without bytes after it, the call reports its length. */
 static void beginnings(void) {
     static const uint32_t sizes[5] = {2, 0, 3, 1, 4};
     uint8_t bytes[160];
@@ -67,7 +68,7 @@ static void beginnings(void) {
     is_first("no bytes at all", NULL, 0, CAPN_FRAME_EMPTY, 8);
 }
 
-/* The errors, and when they are found. */
+/* Tests the errors, and after how many bytes each is found. */
 static void refused(void) {
     const capn_limits one = limits_of(1, 1, 1, 0), third = limits_of(1, 1, 1, 2);
     const capn_limits bad[] = {limits_of(0, 1, 1, 0), limits_of(1, 1, 0, 0), limits_of(1, 1, 257, 0),
@@ -88,7 +89,7 @@ static void refused(void) {
     want("no report", r.length | r.at, 0);
 }
 
-/* Words of all kinds, packed: words of zeros, of one byte, of eight. */
+/* Packed words of all kinds: zero words, words with one byte that isn't zero, and words with eight. */
 enum { WORDS = 40 };
 static uint8_t words[8 * WORDS], text[10 * WORDS];
 static size_t text_size;
@@ -103,8 +104,8 @@ static void make_words(void) {
     text_size = r.length;
 }
 
-/* Each beginning of the packed bytes, with each size of buffer. What was written is a beginning of the words, what was
- * taken unpacks to it, and nothing else is changed. */
+/* Passes each beginning of the packed bytes, with each size of buffer. The written bytes have to be a beginning of the
+ * words. The bytes that the call took have to unpack to the written bytes. Nothing else may change. */
 static void some(void) {
     for (size_t size = 0; size <= text_size; size++)
         for (size_t room = 0; room <= sizeof words + 9; room += room < 64 ? 1 : 7) {
@@ -130,8 +131,8 @@ static void some(void) {
     want("no length", r.length | r.at, 0);
 }
 
-/* Packed bytes unpack in chunks as they do at once: in chunks of each length, with each buffer that a group fits
- * into. */
+/* Unpacking in chunks gives the same words as unpacking at once. The chunks have each length, and the buffers have each
+ * size that a group fits into. */
 static void loops(void) {
     for (size_t piece = 1; piece <= text_size; piece++)
         for (size_t room = 168; room <= 200; room += 8) {

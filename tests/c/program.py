@@ -1,14 +1,14 @@
 """Answers each call of standard input in the form of the stored answers, by the program that CAPN names.
 
-The least limit on message words with which the program unpacks is 2,050 words. If a call allows fewer words, and the
-packed bytes unpack to more or are rejected, this script answers `?`."""
+The program can't unpack with a limit of fewer than 2,050 message words. If a call allows fewer words, and the packed
+bytes unpack to more or are rejected, this script answers `?`."""
 import os
 import subprocess
 import sys
 
 
 def run(words, data):
-    """Returns the status, the output, and the error."""
+    """Returns the status, the output, and the text on standard error."""
     ran = subprocess.run([os.environ["CAPN"], *words], input=data, capture_output=True)
     return ran.returncode, ran.stdout, ran.stderr.decode().removeprefix("capn: ").removesuffix("\n")
 
@@ -18,7 +18,7 @@ def digits(data):
 
 
 def priced(words, data):
-    """Returns the cost of the one message as `check` prints it, and whether a bare message is canonical."""
+    """Returns the cost of a message as `check` prints it, and whether a bare message is canonical."""
     status, wrote, refusal = run(["check", *words], data)
     if status:
         return None, None, refusal

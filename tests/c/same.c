@@ -1,7 +1,8 @@
-/* Tests the comparison of two messages: some written by hand, and pairs of the bytes at the end of lines of standard
- * input, in hexadecimal, in each form and with some limits. Without packing, each is compared with each. The status,
- * the report and `which` must follow from capn_canonical of the two. capn_same allocates as often as capn_check does
- * for the messages that it looks at, and each of these allocations fails in turn. */
+/* Tests the comparison of two messages. Some messages are written by hand. The others are pairs of the bytes at the end
+ * of lines of standard input, in hexadecimal, in each form and with some limits. Unpacked messages are each compared
+ * with all others. The status, the report and `which` must follow from capn_canonical of both messages. capn_same may
+ * allocate as often as capn_check does for the messages that capn_same reads. Each of these allocations fails in turn.
+ */
 #define TEST "same"
 #include "refusing.h"
 #include "wanted.h"
@@ -12,7 +13,7 @@ static unsigned long long equal, unequal, refused[2];
 struct input {
     const uint8_t *bytes;
     size_t size;
-    /* What capn_canonical returns for it, and how often capn_check allocates. */
+    /* What capn_canonical returns for this input, and how often capn_check allocates. */
     capn_status status;
     capn_report report;
     uint8_t *canonical;
@@ -36,7 +37,7 @@ static void judge(struct input *in) {
     in->status = capn_canonical(form, in->bytes, in->size, limits, in->canonical, room, &in->report);
 }
 
-/* What capn_same must return for two such inputs: the status, the report and `which`. */
+/* Returns the status, the report and `which` that capn_same must give for these two inputs. */
 static capn_status expected(const struct input *a, const struct input *b, uint32_t *which, capn_report *report) {
     *which = a->status == CAPN_OK && b->status != CAPN_OK;
     const struct input *first = *which ? b : a;
@@ -70,7 +71,7 @@ static void pair(const struct input *a, const struct input *b) {
     else refused[of]++;
 }
 
-/* Each allocation fails in turn: first those for the one message, then those for the other. */
+/* Fails each allocation in turn: first the allocations for one message, and then those for the other. */
 static void without_memory(const struct input *a, const struct input *b) {
     uint32_t which, of;
     capn_report report, told;
@@ -89,7 +90,7 @@ static void without_memory(const struct input *a, const struct input *b) {
     left = -1;
 }
 
-/* ---- by hand */
+/* ---- messages that are written by hand */
 
 static void put(uint8_t *to, const uint64_t *words, size_t many) {
     for (size_t i = 0; i < 8 * many; i++) to[i] = (uint8_t)(words[i / 8] >> i % 8 * 8);
@@ -156,7 +157,7 @@ static void layouts(void) {
           WORDS(STRUCT(0, 0, 2), STRUCT(1, 1, 0), STRUCT(1, 1, 0), 5, 5), ok);
 }
 
-/* A message in one segment and in two. */
+/* Compares a message in one segment with the same message in two. */
 static void segments(void) {
     uint8_t one[24] = {0}, two[48] = {0};
     capn_report report;
@@ -220,7 +221,7 @@ static void store(const char *line, uint8_t *pages) {
     inputs[count++] = (struct input){kept, size, 0, {0, 0, 0, 0, 0, 0}, NULL, 0};
 }
 
-/* An input at the end of pages. */
+/* Returns a copy of an input at the end of pages. */
 static struct input moved(const struct input *in, uint8_t *pages) {
     struct input out = *in;
     uint8_t *to = at_end(pages, in->size);

@@ -1,7 +1,7 @@
-/* Tests canonical bytes with scratch: of messages that are written by hand, and of the bytes at the end of lines of
- * standard input, in hexadecimal, in each form and with some limits. With the scratch that it needs, and with more, the
- * call returns and reports what capn_canonical does. With a word less it asks for that scratch again. It never
- * allocates. */
+/* Tests canonical bytes with scratch. The messages are written by hand, or are the bytes at the end of lines of
+ * standard input, in hexadecimal, in each form and with some limits. With the scratch that it needs or with more, the
+ * call has to return and report what capn_canonical does. With a word less, it has to report again how much scratch it
+ * needs. It must never allocate. */
 #define TEST "scratch"
 #include "refusing.h"
 #include "wanted.h"
@@ -10,7 +10,7 @@ enum { LINE = 1 << 20, MORE = 3, FILL = 0x55 };
 static unsigned long long answered, refused, lent;
 static uint8_t *bytes_pages, *scratch_pages, *out_pages;
 
-/* The input, the scratch and the buffer lie at the end of pages, or a byte before it. */
+/* The input, the scratch and the buffer end at the end of pages, or a byte before it. */
 struct given {
     uint32_t form;
     const uint8_t *bytes;
@@ -19,7 +19,7 @@ struct given {
     uint8_t *out;
 };
 
-/* One call, while every allocation fails. Unless it returns CAPN_OK, the buffer is unchanged. */
+/* Makes one call while every allocation fails. Unless the call returns CAPN_OK, the buffer must stay unchanged. */
 static capn_status call(struct given *g, capn_report *report) {
     const capn_report none = {0, 0, 0, 0, 0, 0};
     const size_t long_words = 8 * g->words + g->before, long_room = g->room + g->before;
@@ -52,7 +52,7 @@ static capn_status call(struct given *g, capn_report *report) {
     return status;
 }
 
-/* With a buffer of the length that capn_canonical needs, and with a smaller one. */
+/* Tries a buffer of the length that capn_canonical needs, smaller buffers, and a larger one. */
 static void rooms(struct given *g, const uint8_t *canonical, const capn_report *wanted) {
     capn_report report;
     const size_t length = wanted->length;
@@ -71,7 +71,8 @@ static void rooms(struct given *g, const uint8_t *canonical, const capn_report *
     g->room = length;
 }
 
-/* The call asks for the scratch that it needs at most twice. With a word less it asks again. */
+/* The call may report at most twice that it needs more scratch. With a word less than it needs, it reports this again.
+ */
 static void scratches(struct given *g, uint64_t most) {
     capn_report report;
     for (int times = 0; call(g, &report) == CAPN_NO_SCRATCH; times++) {
@@ -112,10 +113,10 @@ static void compare(uint32_t form, const uint8_t *bytes, size_t size, const capn
     free(canonical);
 }
 
-/* ---- by hand */
+/* ---- messages that are written by hand */
 
-/* The scratch for a message whose first segment has a word of zeros and whose other segments have none, packed and not
- * packed. */
+/* Tests how much scratch a message needs. Its first segment has a zero word, and its other segments have no words. The
+ * message is tried packed and unpacked. */
 static void many(size_t segments) {
     const size_t table = 8 * (segments / 2 + 1), size = table + 8;
     const size_t ends = segments > 64 ? segments - 1 : 0;

@@ -1,8 +1,8 @@
-/* Tests the calls for a message in segments. Each must return what the call without `_segments` returns for the
- * stream of the same segments. The streams are the bytes at the end of each line of standard input, in hexadecimal,
- * and copies of them with some bytes changed, by a fixed seed. Each segment is copied alone, to an odd address, and
- * the last one to the end of a page before one that can't be accessed. Then come segments that no stream has, and
- * the calls that need no memory, while every allocation fails. */
+/* Tests the calls for a message in segments. Each call must return what the call without `_segments` returns for the
+ * stream of the same segments. The streams are the bytes at the end of each line of standard input, in hexadecimal, and
+ * copies of them with some bytes changed, by a fixed seed. Each segment is copied alone to an odd address. The last
+ * segment ends at the end of a page, before a page that can't be accessed. Then come segments that no stream has.
+ * Finally every allocation fails for the calls that need no memory. */
 #define TEST "segments"
 #include "refusing.h"
 #include "wanted.h"
@@ -11,7 +11,7 @@ enum { MOST = 4096, ROUNDS = 40 };
 static uint8_t *guarded;
 static unsigned long long held_messages, accepted_messages, several;
 
-/* Both calls return the same status, and write the same report and the same bytes. */
+/* Both calls must return the same status, and write the same report and the same bytes. */
 static void same(const char *what, capn_status status, capn_status wanted, const capn_report *report,
                  const capn_report *told, const void *left, const void *right, size_t size) {
     want(what, status, wanted);
@@ -19,7 +19,7 @@ static void same(const char *what, capn_status status, capn_status wanted, const
     want("its answer", size && memcmp(left, right, size) != 0, 0);
 }
 
-/* Every call for segments, beside the one for the stream. */
+/* Compares every call for segments with the call for the stream. */
 static void compare(const capn_segment *segments, size_t count, const uint8_t *frame, size_t size,
                     const capn_limits *limits) {
     capn_report report, told;
@@ -64,7 +64,7 @@ static uint32_t number(const uint8_t *at) {
     return at[0] | (uint32_t)at[1] << 8 | (uint32_t)at[2] << 16 | (uint32_t)at[3] << 24;
 }
 
-/* The segments of a stream, each copied alone, if the bytes are one message. */
+/* If the bytes are one message, copies each of its segments alone, and compares the calls. */
 static void held(const uint8_t *frame, size_t size, const capn_limits *limits) {
     if (size < 8 || number(frame) >= MOST) return;
     const size_t count = (size_t)number(frame) + 1, head = 8 * (count / 2 + 1);
@@ -95,7 +95,7 @@ static void held(const uint8_t *frame, size_t size, const capn_limits *limits) {
     for (size_t i = 0; i < made; i++) free(blocks[i]);
 }
 
-/* Segments that no stream has, or only a long one. */
+/* Tries segments that no stream has, or only a long stream. */
 static void borders(void) {
     static const uint8_t words[8 * 1024];
     static capn_segment segments[MOST + 1];
@@ -145,7 +145,7 @@ static void borders(void) {
     want("no tariff", capn_canonical_segments(segments, 1, &other, out, 32, &report), CAPN_BAD_TARIFF);
 }
 
-/* A pointer in one segment to a struct in the next: only the call for a digest allocates. */
+/* A pointer in one segment leads to a struct in the next segment. Only the call for a digest allocates. */
 static void without_memory(void) {
     uint8_t far[8] = {2, 0, 0, 0, 1}, object[16] = {0, 0, 0, 0, 1, 0, 0, 0, 5}, out[32];
     const capn_segment segments[] = {{far, 1}, {object, 2}};

@@ -1,6 +1,7 @@
-/* Tests capn_show. With the word `answers`, each line of standard input is a stored run of `show`: the output of the
- * library for its bytes is printed as the outputs are stored. With the word `agrees`, capn_show is compared with
- * capn_check on the bytes at the end of each line, in each form and style, and each allocation fails once. */
+/* Tests capn_show. With the word `answers`, each line of standard input is a stored run of `show`. The program prints
+ * the library's output for the bytes of the run in the form of the stored outputs. With the word `agrees`, it compares
+ * capn_show with capn_check on the bytes at the end of each line, in each form and style. Each allocation fails once.
+ */
 #define TEST "show"
 #include "refusing.h"
 #include "wanted.h"
@@ -39,7 +40,8 @@ static int is_untouched(const char *out, size_t size) {
     return 1;
 }
 
-/* The text of a message, or NULL. The call is made with buffers of size 0, of the length, of a byte more and less. */
+/* Returns the dump of a message, or NULL. Calls with buffers of size 0, of exactly the length, and of a byte more and
+ * less. */
 static char *text_of(const struct input *in, size_t *length, capn_status *status, capn_report *report) {
     *status = show(in, NULL, 0, report);
     if (*status != CAPN_NO_ROOM) {
@@ -70,7 +72,7 @@ static char *text_of(const struct input *in, size_t *length, capn_status *status
     return text;
 }
 
-/* The same calls, while each allocation fails in turn. */
+/* Makes the same calls while each allocation fails in turn. */
 static void refuse_each(const struct input *in, capn_status wanted) {
     capn_status status = CAPN_MEMORY;
     const long before = live;
@@ -110,7 +112,8 @@ static void agrees(uint32_t form, const uint8_t *bytes, size_t size, const capn_
     }
 }
 
-/* The texts of the messages of a stream, or of one packed message or one without a table, and how the run ends. */
+/* Prints the dumps of the messages of a stream, or the dump of one packed or bare message. Then prints how the run
+ * ends. */
 static void answer(char *line) {
     char *word[16], text[128];
     int count = 0;

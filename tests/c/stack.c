@@ -1,9 +1,10 @@
-/* Measures the stack that each call needs, by threads whose stacks were painted. The messages are chains of objects as
- * deep as the limit, in one segment, in two, and in more than a call reads without an allocation. The program fails if
- * a call needs more than a bound.
+/* Measures the stack that each call needs. It fills the stacks of threads with a pattern, and looks how much of the
+ * pattern is left. The messages are chains of objects as deep as the limit allows. They have one segment, two segments,
+ * or more segments than a call reads without an allocation. The program fails if a call needs more than a bound.
  *
- *     stack BASE OTHERS SHOW INDEX SAME   the bytes that every call may need, and the bytes for each level of depth:
- *                                         for capn_show, capn_index and capn_same, and for all other calls */
+ *     stack BASE OTHERS SHOW INDEX SAME   BASE is the number of bytes that every call may need. The others are the
+ *                                         bytes for each level of depth: for all other calls, and for capn_show,
+ *                                         capn_index and capn_same */
 #include "usual.h"
 #include <pthread.h>
 #include <stdio.h>
@@ -29,7 +30,7 @@ static void put(size_t at, uint32_t low, uint32_t high) {
     }
 }
 
-/* The path to an object that is one level too deep, or at which the traversal limit is reached. */
+/* The path to an object that is one level too deep, or to the object at which the traversal limit is reached. */
 static capn_status led(uint32_t form, const uint8_t *bytes, size_t count) {
     const uint32_t most = depth > 1 ? depth - 1 : 1;
     const capn_limits limits = limits_of(1u << 28, depth > 1 ? 1u << 28 : 0, most, CAPN_PLAIN);
@@ -39,7 +40,7 @@ static capn_status led(uint32_t form, const uint8_t *bytes, size_t count) {
     return status == CAPN_TOO_DEEP || status == CAPN_OVER_BUDGET ? CAPN_OK : status;
 }
 
-/* A message, compared with itself. */
+/* Compares a message with itself. */
 static capn_status same(uint32_t form, const uint8_t *bytes, size_t count) {
     const capn_limits limits = limits_of(1u << 28, 1u << 28, depth, CAPN_STRICT);
     capn_report report;
@@ -92,12 +93,12 @@ static void *run(void *status) {
     return NULL;
 }
 
-/* A number of 4 bytes in the table of the frame. */
+/* Writes a number of 4 bytes into the segment table. */
 static void put_entry(size_t at, uint32_t number) {
     for (int i = 0; i < 4; i++) framed[4 * at + i] = (uint8_t)(number >> 8 * i);
 }
 
-/* The message in segments, and with a table. The segments after the first have one word each. */
+/* The message in segments, and with a table. Each segment after the first has one word. */
 static void cut(void) {
     const size_t table = 8 * (segments / 2 + 1);
     memset(framed, 0, sizeof framed);
@@ -121,8 +122,9 @@ int main(int count, char **words) {
             static const uint32_t counts[] = {1, 2, MOST_SEGMENTS};
             depth = depths[d];
             segments = counts[kind / 8];
-            /* The first of one or two pointers, or of the pointers of structs in a list, leads down to the next object.
-             * In the last shape it is a far pointer. A second pointer has an empty struct. */
+            /* An object has one or two pointers. It is a struct, a list of pointers, or a list of structs with one
+             * pointer each. The first pointer leads to the next object. In the last shape, it is a far pointer. The
+             * second pointer refers to an empty struct. */
             int is_wide = kind % 8 > 3, shape = kind % 4;
             uint32_t many = is_wide ? 2 : 1, down = 0;
             size_t at = 0;

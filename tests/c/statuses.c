@@ -1,5 +1,5 @@
 /* Provokes each status of capn.h, and tests that the calls agree on it. Prints the numbers of the statuses that were
- * returned, in order, to be compared with the header. */
+ * returned, in order, so that they can be compared with the header. */
 #include "refusing.h"
 #include "usual.h"
 #include <stdio.h>
@@ -8,22 +8,21 @@
 
 static int failed, came[256];
 
-/* A number, and the one that is expected. */
+/* Compares a number with the expected number. */
 static void want(const char *what, uint64_t number, uint64_t wanted) {
     if (number == wanted) return;
     failed++;
     fprintf(stderr, "statuses: %s: %llu, wanted %llu\n", what, (unsigned long long)number, (unsigned long long)wanted);
 }
 
-/* The status that was returned, and the one that is expected. */
+/* Compares the returned status with the expected status. */
 static void is(const char *what, capn_status status, capn_status wanted) {
     if (status < 256) came[status] = 1;
     want(what, status, wanted);
 }
 
-/* Makes each call on some bytes: canonical with a buffer, with none and with scratch, hash, same, check, survey,
- * show, the calls with paths, and index unless the bytes are packed. For a value with a capability all but
- * canonical, hash and same return CAPN_OK. */
+/* Makes each call on some bytes. canonical is called with a buffer, without a buffer, and with scratch. index is left
+ * out if the bytes are packed. If the value has a capability, only canonical, hash and same report it. */
 static capn_report each_call(const char *what, uint32_t form, const void *bytes, size_t size, const capn_limits *limits,
                              uint32_t wanted) {
     capn_report checked, report;
@@ -48,15 +47,15 @@ static capn_report each_call(const char *what, uint32_t form, const void *bytes,
     want("which is refused", which, 0);
     is(what, capn_canonical(form, bytes, size, limits, out, 64, &report), wanted);
     is(what, capn_canonical(form, bytes, size, limits, NULL, 0, &report), wanted == CAPN_OK ? CAPN_NO_ROOM : wanted);
-    /* With scratch that is enough for these, and without memory. */
+    /* The scratch is enough for these messages, so this call succeeds even if allocations fail. */
     uint64_t scratch[128];
     const capn_status lent = wanted == CAPN_MEMORY ? CAPN_OK : wanted;
     is(what, capn_canonical_with_scratch(form, bytes, size, limits, scratch, 128, out, 64, &report), lent);
     return wanted == CAPN_CAPABILITY ? report : checked;
 }
 
-/* Makes each call on words without a table, after the table of one segment and after that of two, of which the second
- * has no words, and on each of these packed. */
+/* Makes each call on words without a table, after the table of one segment, and after the table of two segments. The
+ * second of two segments has no words. The messages with a table are also packed. */
 static void walks(const char *what, const uint64_t *words, size_t count, const capn_limits *limits, uint32_t wanted,
                   uint32_t word) {
     uint8_t bytes[32], text[64];
@@ -77,7 +76,7 @@ static void walks(const char *what, const uint64_t *words, size_t count, const c
     }
 }
 
-/* The errors about pointers, and a capability. */
+/* Errors of pointers, and a capability. */
 static void walked(void) {
     const capn_limits shallow = limits_of(3, 100, 1, CAPN_STRICT), poor = limits_of(3, 1, 64, CAPN_STRICT);
     const uint64_t null = 0, capability = 3, reserved = 7, far = 2 | 9ull << 32, beyond = 2 | 9 << 3;
@@ -100,7 +99,7 @@ static void walked(void) {
     walks("a null root", &null, 1, &usual, CAPN_OK, 0);
 }
 
-/* The errors about the packed bytes and the segment table, with their numbers. */
+/* Errors of packed bytes and of the segment table, with their numbers. */
 static void read_as(const char *what, uint32_t form, const void *bytes, size_t size, const capn_limits *limits,
                     uint32_t wanted, uint64_t at) {
     capn_report told = each_call(what, form, bytes, size, limits, wanted);
@@ -124,7 +123,7 @@ static void reading(void) {
     read_as("2 words", CAPN_STREAM, "\0\0\0\0\2\0\0", 8, &one, CAPN_TOO_MANY_WORDS, 2);
     read_as("a cut frame", CAPN_STREAM, message, 15, &usual, CAPN_FRAME_CUT, 0);
     read_as("bytes after the frame", CAPN_STREAM, message, 24, &usual, CAPN_TRAILING, 16);
-    /* 8 packed bytes, and an offset of 24 in what they unpack to. */
+    /* The offset is 24 in the unpacked bytes. The message has 8 packed bytes. */
     read_as("words after a packed frame", CAPN_PACKED, "\x10\2\x10\1\1\5\0", 8, &usual, CAPN_TRAILING, 24);
     read_as("a packed frame of too many segments", CAPN_PACKED, "\3\0\x10", 3, &usual, CAPN_TOO_MANY_SEGMENTS, 4097);
     read_as("a packed frame that is cut", CAPN_PACKED, "\x10\2\x10\1", 4, &usual, CAPN_FRAME_CUT, 0);
@@ -136,8 +135,8 @@ static void reading(void) {
     want("its offset", report.at, 2);
 }
 
-/* Packed bytes of more words than one message and the longest table may have. More words than a message without a table
- * may have, of which none is read. */
+/* Packed bytes that unpack to more words than one message and the longest table may have. Then more words than a
+ * message without a table may have, of which the call reads none. */
 static void too_long(void) {
     const capn_limits one = limits_of(1, 1, 1, CAPN_STRICT);
     uint8_t zeros[18];
@@ -153,7 +152,7 @@ static void too_long(void) {
     munmap(bytes, 8 * words);
 }
 
-/* The errors about arguments, a buffer that is too small, and bytes that are not canonical. */
+/* Errors of arguments, a buffer that is too small, and bytes that aren't canonical. */
 static void called(void) {
     const uint8_t message[24] = {0, 0, 0, 0, 2, 0, 0, 0, 0, 0, 0, 0, 1, 0, 0, 0, 0};
     const capn_limits none = limits_of(0, 1, 1, CAPN_STRICT), third = limits_of(1, 1, 1, 2);
@@ -179,9 +178,9 @@ static void called(void) {
     is("a struct with a zero word", capn_is_canonical(message + 8, 16, &usual, &report), CAPN_NOT_CANONICAL);
 }
 
-/* Without memory: a stream of 65 segments, packed bytes, and calls that hash, pack and unpack return CAPN_MEMORY.
- * The canonical bytes and the index of a message in one or two segments need none, nor does the digest of canonical
- * bytes. */
+/* Without memory, a stream of 65 segments and packed bytes give CAPN_MEMORY, and so do calls that hash, pack and
+ * unpack. The canonical bytes and the index of a message in one or two segments need no memory. The digest of canonical
+ * bytes needs none, either. */
 static void without_memory(void) {
     const uint8_t many[272] = {64, 0, 0, 0, 1}, two[24] = {1, 0, 0, 0, 1}, packed[9] = {0x10, 1, 0, 0};
     const uint8_t loose[16] = {0, 0, 0, 0, 1};

@@ -1,12 +1,13 @@
-/* Tests capn_survey: on messages that are written by hand, against the other calls, on invalid messages, and at any
- * address, beside a page that can't be accessed. */
+/* Tests capn_survey on messages that are written by hand, on invalid messages, and against the other calls. The message
+ * lies at any address, next to a page that can't be accessed. */
 #define TEST "survey"
 #include "wanted.h"
 
 static uint8_t *guarded;
 
-/* Surveys words without a table, after the table of one segment, and after that of three, of which two have no
- * words. The figures are the expected ones, except that a message of three segments is not canonical. */
+/* Surveys words without a table, after the table of one segment, and after the table of three segments. Two of the
+ * three segments have no words. The figures have to be the expected ones, except that a message of three segments isn't
+ * canonical. */
 static void figures(const char *what, const uint64_t *words, uint32_t count, capn_figures wanted) {
     for (uint32_t segments = 0; segments <= 3; segments += segments == 0 ? 1 : 2) {
         size_t table = segments == 0 ? 0 : 8 * (segments / 2 + 1), size = table + 8 * count;
@@ -42,7 +43,7 @@ static void figures(const char *what, const uint64_t *words, uint32_t count, cap
             want("as check says", capn_check(form, in, size, &lower, &checked), status);
             want("its report", memcmp(&r, &checked, sizeof r) != 0, 0);
         }
-        /* The same message, packed. */
+        /* Surveys the same message after it was packed. */
         if (segments) {
             uint8_t text[128];
             capn_figures same = {0, 0, 0, 0, 0, 0, 0, 0};
@@ -52,7 +53,7 @@ static void figures(const char *what, const uint64_t *words, uint32_t count, cap
             want("the same", memcmp(&same, &f, sizeof f) != 0, 0);
             want("its report", r.paid != f.paid || r.visits != f.visits || r.length || r.at || r.segment || r.word, 0);
         }
-        /* The same message, at each address. */
+        /* Surveys the same message at each address. */
         for (size_t off = 1; off < 8; off++) {
             uint8_t *odd = memmove(in - off, in, size);
             capn_figures same = {0, 0, 0, 0, 0, 0, 0, 0};

@@ -12,8 +12,8 @@ static void broken(const char *what, const char *text) {
     fprintf(stderr, "texts: %s: %s\n", what, text);
 }
 
-/* In each buffer the text is cut to its size, and ends with a zero byte. Nothing after the buffer is written. The
- * length is that of the whole text. */
+/* In each buffer the text is cut to the buffer's size, and ends with a zero byte. Nothing after the buffer is written.
+ * The returned length is the length of the whole text. */
 static void is(capn_status status, const capn_report *report, const char *wanted) {
     const size_t length = strlen(wanted);
     if (capn_refusal_text(status, report, NULL, 0) != length) broken("another length without room", wanted);

@@ -1,5 +1,5 @@
-/* Tests calls at the same time. Threads that start together make every call on the same input, with buffers of their
- * own. Each must get what one thread alone gets. */
+/* Tests simultaneous calls. Threads that start together make every call on the same input, with buffers of their own.
+ * Each thread must get the results that a single thread gets. */
 #include "usual.h"
 #include <pthread.h>
 #include <stdio.h>
@@ -11,11 +11,12 @@
 #endif
 enum { DEPTH = 200, WORDS = 2 * DEPTH, ROOM = 16 * WORDS, CALLS = 18 };
 static capn_limits limits;
-/* Structs of two pointers, each below the one before, in two segments, and packed. */
+/* A chain of structs in two segments, and the same message packed. Each struct has two pointers, and refers to the next
+ * struct. */
 static uint8_t stream[16 + 8 * WORDS], packed[10 * (WORDS + 2)];
 static size_t packed_size;
 
-/* What the calls return and write: statuses, reports and buffers. */
+/* The statuses, reports and buffers that the calls return and write. */
 typedef struct answers {
     capn_status status[CALLS];
     capn_report report[CALLS];

@@ -1,5 +1,5 @@
-/* What the programs of this folder share: comparisons, limits, pages between two that can't be accessed. TEST is the
- * name of the program. */
+/* Shared code of the programs of this folder: comparisons, limits, and memory between two pages that can't be accessed.
+ * TEST is the name of the program. */
 #ifndef CAPN_TESTS_WANTED_H
 #define CAPN_TESTS_WANTED_H
 #include "usual.h"
@@ -18,17 +18,18 @@ static void want(const char *what, uint64_t got, uint64_t wanted) {
 
 enum { PAGE = 4096, PAGES = 24, ALL_PAGES = PAGE * PAGES };
 
-/* ALL_PAGES bytes between two pages that can't be accessed. */
+/* Returns ALL_PAGES bytes between two pages that can't be accessed. */
 static inline uint8_t *between_pages(void) {
     uint8_t *all = mmap(NULL, ALL_PAGES + 2 * PAGE, PROT_NONE, MAP_PRIVATE | MAP_ANONYMOUS, -1, 0);
     if (all == MAP_FAILED || mprotect(all + PAGE, ALL_PAGES, PROT_READ | PROT_WRITE)) exit(2);
     return all + PAGE;
 }
 
-/* The last `size` bytes of such pages. */
+/* Returns the last `size` bytes of such pages. */
 static inline uint8_t *at_end(uint8_t *pages, size_t size) { return pages + ALL_PAGES - size; }
 
-/* The bytes at the end of a line, in hexadecimal, are written to the end of such pages. Null if they do not fit. */
+/* Writes the bytes at the end of a line, in hexadecimal, to the end of such pages. Returns null if the bytes don't fit.
+ */
 static inline uint8_t *bytes_at_end(const char *line, uint8_t *pages, size_t *size) {
     const char *digits = strrchr(line, ' ');
     digits = digits ? digits + 1 : line;

@@ -1,8 +1,8 @@
-/* Tests the calls that report paths. With the word `answers`, capn_refusal_way or capn_departure is made on the
- * bytes of each call of standard input that has limits, and a line of what it reports is printed: `?` if the bytes
- * are not one message. With the word `agrees`, both are made on the bytes at the end of each line, in each form and
- * with some limits, with an array of exactly the length of the path, a longer one, a shorter one and none. They are
- * compared with capn_check, capn_survey and capn_canonical, and each allocation fails once. */
+/* Tests the calls that report paths. With the word `answers`, it makes capn_refusal_way or capn_departure on the bytes
+ * of each call of standard input that has limits, and prints a line of what the call reports. It prints `?` if the
+ * bytes aren't one message. With the word `agrees`, it makes both calls on the bytes at the end of each line, in each
+ * form and with some limits. The array has exactly the length of the path, is longer, is shorter, or is missing. The
+ * results are compared with capn_check, capn_survey and capn_canonical, and each allocation fails once. */
 #define TEST "ways"
 #include "refusing.h"
 #include "wanted.h"
@@ -30,7 +30,7 @@ static uint8_t *of_digits(const char *digits, size_t *size) {
     return bytes;
 }
 
-/* ---- the calls, with what they may write filled before */
+/* ---- the calls; the memory that they may write is filled before */
 
 typedef capn_status call(const struct input *in, capn_departed *departed, size_t most, capn_report *report);
 
@@ -50,7 +50,7 @@ static capn_status departure(const struct input *in, capn_departed *departed, si
     return capn_departure(in->form, in->bytes, in->size, &in->limits, departed, most ? way : NULL, most, report);
 }
 
-/* From a number on, the array is unchanged. */
+/* From a number on, the array must be unchanged. */
 static void kept(const char *what, size_t from) {
     for (size_t i = from; i <= MOST; i++)
         if (way[i] != FILL) {
@@ -59,7 +59,7 @@ static void kept(const char *what, size_t from) {
         }
 }
 
-/* A path is written if it fits, and otherwise nothing is. The call returns the same. */
+/* The call writes a path only if it fits. What it returns and reports must not depend on the size of the array. */
 static void rooms(call *make, const struct input *in, capn_status status, const capn_report *told, size_t numbers) {
     static uint32_t all[MOST];
     capn_departed first, other;
@@ -78,7 +78,7 @@ static void rooms(call *make, const struct input *in, capn_status status, const 
     }
 }
 
-/* The same call, while each allocation fails in turn. */
+/* Makes the same call while each allocation fails in turn. */
 static void refuse_each(call *make, const struct input *in, capn_status wanted) {
     capn_status status = CAPN_MEMORY;
     const capn_report none = {0, 0, 0, 0, 0, 0};
@@ -99,7 +99,7 @@ static void refuse_each(call *make, const struct input *in, capn_status wanted) 
     want("with enough memory", status, wanted);
 }
 
-/* ---- against the other calls */
+/* ---- comparisons with the other calls */
 
 static uint64_t word_at(const uint8_t *bytes, size_t word) {
     uint64_t number = 0;
@@ -107,7 +107,8 @@ static uint64_t word_at(const uint8_t *bytes, size_t word) {
     return number;
 }
 
-/* The expected kind, from the summary of the message, and for a message of one segment the first word that differs. */
+/* The summary of the message gives the expected kind. For a message of one segment, the first word that differs has to
+ * be right, too. */
 static void compare(const struct input *in, const capn_departed *d) {
     capn_figures f;
     capn_report r;
@@ -225,7 +226,7 @@ static void answer(const struct input *in) {
     }
 }
 
-/* The bytes of a call that has limits, or 0. */
+/* Returns whether a line is a call that has limits. Sets the input of the call. */
 static int is_call(const char *from, struct input *in) {
     char what[16], form[16];
     int at = 0;

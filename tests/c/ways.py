@@ -1,5 +1,5 @@
 """Answers each call of standard input that has limits in the form of `ways answers`. It takes the path to an error, and
-the first difference from the canonical form, from the output of `explain` of the program that CAPN names."""
+the first difference from the canonical form, from the output of `explain`. CAPN names the program."""
 import os
 import re
 import subprocess

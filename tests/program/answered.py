@@ -1,12 +1,12 @@
 #!/usr/bin/env python3
-"""The results that the program has to have for a command line, by `model` and `explained`. A command is the function
-`run_COMMAND` of one of them, with the options of the command as parameters. The texts of help say which options there
-are, and which of them take a number.
+"""Computes the results that the program has to have for a command line. It calls the function `run_COMMAND` of `model`,
+or a function of `explained`, with the options of the command as parameters. It finds the options, and those that take a
+number, in the texts of help.
 
     tests/program/answered.py COMMAND [OPTION..] < INPUT
 
-writes the output to standard output and standard error, and ends with the status. `make` has no model: `texts` compares
-it with `show`.
+This writes the output to standard output and standard error, and ends with the status. `make` has no model, so `texts`
+compares it with `show`.
 """
 
 import re
@@ -17,12 +17,12 @@ import help_texts
 import model
 
 HELP = help_texts.helps()
-# The words that help has in place of a value that is a number.
+# The words for a value in the texts of help that stand for a number.
 NUMBERS = ("N", "K")
 
 
 def options_of(command):
-    """Returns the options of a command, but `--help`."""
+    """Returns the options of a command without `--help`."""
     return [option for option in help_texts.options_of(HELP[command]) if option.name != "--help"]
 
 
@@ -46,8 +46,8 @@ def answer(line, data):
 
 
 def values_of(option):
-    """Returns values of an option: its words, two small numbers, or the example of help. An option without a value gets
-    no word."""
+    """Returns values to try for an option. They are the words that it allows, two small numbers, or the example of
+    help. An option without a value gets no word."""
     if not option.takes:
         return [[]]
     words = ["1", "2"] if option.takes in NUMBERS else option.words or re.findall(r", such as `([^`]+)`", option.said)

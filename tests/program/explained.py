@@ -1,4 +1,5 @@
-"""The output of `explain`, written a second time, in Python, from docs/DIAGNOSTICS.md. It belongs to `model`."""
+"""Computes the output of `explain`. It is a second implementation, written in Python from docs/DIAGNOSTICS.md, and
+belongs to `model`."""
 
 import model
 
@@ -6,7 +7,7 @@ KINDS = ["voids", "bits", "bytes", "u16", "u32", "u64", "pointers"]
 
 
 def decoded(word):
-    """Returns the description of a word as a pointer."""
+    """Returns the description of a word, read as a pointer."""
     if word == 0:
         return "null"
     kind, offset = word & 3, (word & 0xFFFFFFFF) >> 2
@@ -24,7 +25,7 @@ def decoded(word):
 
 
 def tag_of(word):
-    """Returns the description of a word as the tag of a list of structs."""
+    """Returns the description of a word, read as the tag of a list of structs."""
     if word & 3:
         return decoded(word)
     return f"tag of {(word & 0xFFFFFFFF) >> 2} structs of {word >> 32 & 0xFFFF} words and {word >> 48} slots"
@@ -35,14 +36,14 @@ def dotted(way):
 
 
 class Explanation(model.Walk):
-    """A traversal that knows the path to the pointer that it visits, and the object that holds the pointer."""
+    """A traversal that knows the path to the pointer that it visits, and the object that holds this pointer."""
 
     def __init__(self, segments, limits, begin, table):
         self.begin, self.table, self.limits = begin, table, limits
         self.way, self.holder, self.refused, self.asked = [], None, None, None
         self.capability_way = None
-        # The object that holds the next pointers: its path, its first pointer, and its kind. For a struct in a list,
-        # the list, too.
+        # The object that holds the next pointers: its path, its first pointer, and its kind. For a struct in a list, it
+        # also has the list.
         self.within = self.shape = None
         try:
             super().__init__(segments, **limits)
@@ -148,13 +149,14 @@ def segments_line(segments):
 
 
 def sizes_line(sizes):
-    """Returns the line about segments of these sizes. If there are several, it has the sizes of the first eight."""
+    """Returns the line about segments of these sizes. The line of several segments has the sizes of the first eight."""
     first = ", ".join(map(str, sizes[:8])) + (", .." if len(sizes) > 8 else "")
     return f"segments: {len(sizes)} of {sum(sizes)} words{': ' + first if len(sizes) > 1 else ''}\n"
 
 
 class Owner(Explanation):
-    """A traversal of canonical bytes that finds what a word is part of, by the path to that pointer."""
+    """A traversal of canonical bytes that finds which object a word belongs to, as the path to that object's
+    pointer."""
 
     def __init__(self, segment, word, walk):
         self.sought, self.owner = word, None
@@ -179,7 +181,7 @@ class Owner(Explanation):
 
 
 def difference(walk, segment, canonical):
-    """Returns the first word of a segment that differs from the canonical bytes, and what it is part of."""
+    """Returns the first word of a segment that differs from the canonical bytes, and what that word is part of."""
     at = next(i for i in range(0, len(segment), 8) if segment[i:i + 8] != canonical[i:i + 8])
     word, other = segment[at:at + 8], canonical[at:at + 8]
     line = f"at byte {walk.byte(0, at // 8)}: {word.hex()}"
@@ -194,7 +196,7 @@ def difference(walk, segment, canonical):
 
 
 def accepted_lines(walk, segments):
-    """Returns the lines for a message that is accepted, but for those about its place."""
+    """Returns the lines for an accepted message, without the lines about its place."""
     out = [f"accepted: paid {walk.paid} visits {walk.visits} depth {walk.height}\n"]
     canonical = model.canonical(walk.value) if walk.capability is None else None
     if len(segments) == 1 and canonical == segments[0]:
@@ -212,8 +214,8 @@ def accepted_lines(walk, segments):
 
 
 def came(data, form, offset):
-    """Returns what was read of a message from its offset on, unpacked, and the bytes of a truncated group. The message
-    was rejected before its traversal."""
+    """Returns what could be read of a message that was rejected before its traversal. The result has the unpacked bytes
+    from the message's offset on, and the bytes of a truncated group."""
     if form != "packed":
         return data[offset:], b""
     words, group = model.unpacked(data)
@@ -221,7 +223,8 @@ def came(data, form, offset):
 
 
 def table_lines(rest):
-    """Returns the line about the segments, if the table was read completely and doesn't have too many."""
+    """Returns the line about the segments if the table is complete and has no more than the most segments. Returns no
+    line otherwise."""
     count = model.number(rest, 0, 4) + 1
     if count > model.MOST_SEGMENTS or len(rest) < 4 + 4 * count:
         return []
@@ -229,15 +232,15 @@ def table_lines(rest):
 
 
 def least(rest):
-    """Returns the bytes that a message has by its segment table, as if the missing bytes of the table were zeros."""
+    """Returns the size in bytes that the segment table gives a message. Missing bytes of the table count as zeros."""
     count = model.number(rest, 0, 4) + 1
     sizes = [model.number(rest[:4 + 4 * count], at, 4) for at in range(4, len(rest), 4)]
     return 8 * (1 + count // 2) + 8 * sum(sizes)
 
 
 def needed(group):
-    """Returns the least number of bytes of a group: its tag, the bytes that the tag announces, and after two of the
-    tags a count and as many words."""
+    """Returns the least number of bytes of a group. A group has its tag and the bytes that the tag announces. After two
+    of the tags it also has a count, and after one of these as many words as the count says."""
     size = 1 + bin(group[0]).count("1")
     if group[0] not in (0, 255):
         return size
@@ -245,7 +248,8 @@ def needed(group):
 
 
 def fault_lines(fault, message_words, rest, group):
-    """Returns the lines for a message that is rejected before its traversal, of which this part was read."""
+    """Returns the lines for a message that was rejected before its traversal. `rest` and `group` are what could be read
+    of it."""
     text, index, offset = fault
     out = [f"message: {index} at {offset}\n"]
     if not text.startswith("bare: "):
@@ -267,7 +271,8 @@ def fault_lines(fault, message_words, rest, group):
 
 
 def walked(message, form, limits):
-    """Returns the traversal of a message, and the lines that explain the error, if there is one, but for its place."""
+    """Returns the traversal of a message, and the lines that explain its error. The line about its place is left out. A
+    message without an error has no such lines."""
     offset, _frame, segments = message
     walk = Explanation(segments, limits, offset, 0 if form == "bare" else len(segments) // 2 + 1)
     lines = [segments_line(segments)]
@@ -278,8 +283,9 @@ def walked(message, form, limits):
 
 
 def explain(data, form="stream", message_words=8388608, wanted=None, **limits):
-    """Returns the output of `explain` for the message of a number, or for the first rejected one if that is None, the
-    line on standard error, and the exit status. The limits are those of the traversal."""
+    """Returns the output of `explain`, the line on standard error, and the exit status. It explains the message with
+    the number `wanted`. If `wanted` is None, it explains the first rejected message. The limits are those of the
+    traversal."""
     found, fault = model.messages(data, form, message_words)
     for index, message in enumerate(found, 1):
         if wanted not in (None, index):
@@ -298,7 +304,8 @@ def explain(data, form="stream", message_words=8388608, wanted=None, **limits):
 
 
 def explain_refused(data, form="stream", message_words=8388608, **limits):
-    """Returns the same for every message that is rejected, with an empty line after each."""
+    """Returns the output, the line on standard error, and the exit status for an explanation of every rejected message.
+    An empty line follows each explanation."""
     found, fault = model.messages(data, form, message_words)
     out, passed = [], []
     for index, message in enumerate(found, 1):

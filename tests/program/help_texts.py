@@ -1,7 +1,7 @@
-"""Reads the texts of help in the file `help` beside this one: commands, options, exit statuses.
+"""Reads the texts of help in the file `help` beside this script: the commands, options and exit statuses.
 
-`statuses` compares that file with the output of the program. The descriptions of commands in manual pages, completions
-and tables are made from it.
+`statuses` compares that file with the output of the program. Manual pages, completions and tables take their
+descriptions of commands from it.
 """
 
 import os
@@ -12,7 +12,7 @@ HERE = os.path.dirname(os.path.abspath(__file__))
 
 
 def helps():
-    """Returns the texts of help by their command. The text of the program has the empty name."""
+    """Returns the texts of help by their command. The text of the program itself has the empty name."""
     with open(os.path.join(HERE, "help"), encoding="utf-8") as file:
         parts = re.split(r"^\$ capn ?(.*)$", file.read(), flags=re.M)[1:]
     asked = zip(parts[::2], parts[1::2])
@@ -26,7 +26,7 @@ def part_of(text, title):
 
 
 class Option(typing.NamedTuple):
-    """An option of a text of help: its name, its short form, the word for its value, and its description."""
+    """An option in a text of help: its name, its short form, the word for its value, and its description."""
 
     name: str
     short: str
@@ -50,7 +50,7 @@ class Option(typing.NamedTuple):
 
     @property
     def excludes(self):
-        """Returns the options that can't be combined with this one."""
+        """Returns the options that can't be combined with this option."""
         return re.findall(r"`(--[\w-]+)`", self.said.partition("goes without")[2])
 
 

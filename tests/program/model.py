@@ -1,9 +1,9 @@
-"""A second reading of docs/FORMAT.md and docs/LIMITS.md, in Python, to compare the program with.
+"""A second implementation of docs/FORMAT.md and docs/LIMITS.md in Python, which the program is compared with.
 
-It shares nothing with the program: values are tuples, a traversal is a recursion, and canonical bytes are one list. It
-is slow, and it is not proved. `run_COMMAND` does what a command does, with the options of the command as parameters.
-`answered` calls it for the words of a command line, and `archives` and `statuses` compare the result with that of the
-program.
+It shares nothing with the program: a value is a tuple, a traversal is a recursion, and canonical bytes are one list. It
+is slow, and it isn't proved. `run_COMMAND` does the work of a command, and has the options of the command as
+parameters. `answered` calls it for the words of a command line. `archives` and `statuses` compare its result with that
+of the program.
 """
 
 import hashlib
@@ -25,11 +25,12 @@ def number(data, at, size):
     return int.from_bytes(data[at:at + size], "little")
 
 
-# Segment tables and packing.
+# Segment tables and packed bytes.
 
 
 def first_frame(data, at, most):
-    """Returns the segments of the message at an offset and the offset after it, or None if the stream ends there."""
+    """Returns the segments of the message at an offset, and the offset after the message. Returns None if the stream
+    ends there."""
     if at == len(data):
         return None
     if len(data) - at < 4:
@@ -54,8 +55,8 @@ def first_frame(data, at, most):
 
 
 def unpacked(data, most=None):
-    """Returns the words in the complete groups of packed bytes, and the offset of a truncated group, or None. A group
-    that exceeds a maximum of words is an error."""
+    """Returns the words in the complete groups of packed bytes, and the offset of a truncated group, or None. It is an
+    error if a group exceeds a maximum of words."""
     out, at = bytearray(), 0
     while at < len(data):
         tag, begun = data[at], at
@@ -87,7 +88,7 @@ def unpacked(data, most=None):
 
 
 def packed(data):
-    """Returns the packed bytes of whole words. No run in them ends before it has to."""
+    """Returns the packed bytes of whole words. Each run of words in them is as long as it can be."""
     words, text, at = [data[begin:begin + 8] for begin in range(0, len(data), 8)], bytearray(), 0
     while at < len(words):
         word = words[at]
@@ -108,12 +109,13 @@ def packed(data):
 # Traversals.
 
 
-# The limits that are numbers, each with how often a random run has one, and the least and greatest value.
+# The limits that are numbers. Each has the share of random runs that set it, its least value and its greatest value.
 LOW_LIMITS = {"budget": (0.3, 0, 30), "depth": (0.2, 1, 5), "message_words": (0.2, 1, 12)}
 
 
 class Walk:
-    """One traversal of a message: its value, its cost, the number of pointers followed, and its height."""
+    """One traversal of a message. It finds the message's value, its cost, the number of pointers followed, and its
+    height."""
 
     def __init__(self, segments, budget=8388608, depth=64, tariff="strict"):
         self.segments, self.budget, self.most_depth = segments, budget, depth
@@ -299,7 +301,7 @@ def canonical(value):
 
 
 def quoted(items):
-    """Returns the text that is written between quotes for a list of bytes, or None if the list isn't a text."""
+    """Returns the text that is written between quotes for a list of bytes. Returns None if the list isn't a text."""
     if not items or not all(0x20 <= byte <= 0x7E for byte in items[:-1]):
         return None
     if items[-1] and not 0x20 <= items[-1] <= 0x7E:
@@ -309,7 +311,7 @@ def quoted(items):
 
 
 def shown(value, level=0, with_texts=False):
-    """Returns the dump of a value, as `show` writes it, or with texts as `show --text` does."""
+    """Returns the dump of a value, as `show` writes it. With texts, returns the dump that `show --text` writes."""
     kind, pad = value[0], "  " * level
     if kind == "null":
         return f"{pad}null\n"
@@ -335,8 +337,8 @@ def shown(value, level=0, with_texts=False):
 
 
 class Marked:
-    """The lines of an accepted message with their marks: offsets, paths or both. The words of its first segment begin
-    at the given byte. It reads the message again, pointer by pointer."""
+    """The lines of an accepted message with their marks: offsets, paths, or both. `begin` is the byte at which the
+    words of the first segment begin. The class reads the message again, pointer by pointer."""
 
     def __init__(self, segments, begin, offsets, ways, with_texts=False):
         self.walk = Walk(segments, 1 << 60, 1 << 30, "plain")
@@ -349,7 +351,7 @@ class Marked:
         return offset + (f"{name}\t" if self.ways else "") + "  " * level + text + "\n"
 
     def leads(self, segment, at):
-        """Returns the place at which the object of a pointer begins, and the word that describes the object."""
+        """Returns where a pointer's object begins, and the word that describes the object."""
         word = self.walk.word(segment, at)
         if word & 3 != 2:
             return segment, start(word, at), word
@@ -399,7 +401,8 @@ class Marked:
         return text
 
     def below(self, there, step):
-        """Returns the part with this number below an object or a struct in a list, or None."""
+        """Returns the part with this number below an object or below a struct in a list. Returns None if no such part
+        exists."""
         segment, at, row = there
         if row is None:
             word = self.walk.word(segment, at)
@@ -436,8 +439,8 @@ class Marked:
 
 
 def text_of(items):
-    """Returns the text of a list of bytes in JSON, or None. A text is UTF-8 without control characters, with a zero
-    after it."""
+    """Returns a list of bytes as a JSON text, or None if it isn't a text. A text is UTF-8 without control characters,
+    followed by a zero byte."""
     if not items or items[-1] != 0:
         return None
     try:
@@ -448,8 +451,8 @@ def text_of(items):
 
 
 def plain_of(value, with_texts):
-    """Returns a value in the form that the module `json` writes. With texts, a list of bytes that is a text becomes
-    one."""
+    """Returns a value in the form that the module `json` writes. With texts, a list of bytes that is a text becomes a
+    text."""
     kind = value[0]
     if kind == "null":
         return None
@@ -469,7 +472,7 @@ def plain_of(value, with_texts):
 
 
 def stands(value, way):
-    """Returns the part at a path of numbers from a value, or None."""
+    """Returns the part of a value at a path of numbers, or None."""
     for step in way:
         if value[0] not in ("struct", "pointers", "rows"):
             return None
@@ -481,8 +484,8 @@ def stands(value, way):
 
 
 def styled(value, style):
-    """Returns the text of a part, if there is one, in a style: plain, text, json or both. The line that ends it
-    follows."""
+    """Returns the output for a part in a style: plain, text, json or both. The part may be None. The line that ends the
+    output is included."""
     if style in ("json", "both"):
         if value is None:
             return "\n"
@@ -494,9 +497,9 @@ def styled(value, style):
 
 
 def each(data, text_of, form="stream", message_words=8388608, one=False, **limits):
-    """Returns the output for messages, up to the first rejected one, or for exactly one; the line on standard error;
-    and the exit status. The output for a message is made from its traversal, its segments, its offset and its frame.
-    The limits are those of the traversal."""
+    """Returns the output for messages, the line on standard error, and the exit status. The output ends before the
+    first rejected message. With `one`, the input has to be exactly one message. `text_of` makes the output for a
+    message from its traversal, its segments, its offset and its frame. The limits are those of the traversal."""
     if one:
         try:
             segments = only_message(data, form, message_words)
@@ -541,14 +544,14 @@ def run_hash(data, **options):
 
 
 def without_capability(walk):
-    """Returns the traversal of a message, which is rejected if it has a capability."""
+    """Returns the traversal of a message. Raises an error if the message has a capability."""
     if walk.capability is not None:
         raise Refused(f"capability {walk.capability}")
     return walk
 
 
 def is_own(walk, segments):
-    """Returns whether an accepted message is a single segment that has its canonical bytes."""
+    """Returns whether an accepted message is a single segment that equals its canonical bytes."""
     return walk.capability is None and len(segments) == 1 and canonical(walk.value) == segments[0]
 
 
@@ -556,8 +559,8 @@ def is_own(walk, segments):
 
 
 def messages(data, form, most):
-    """Returns each message with its offset, its bytes and the words up to the end of its frame. Then returns the error
-    that ends the stream, with its number and offset, or None."""
+    """Returns each message with its offset, its bytes, and the words up to the end of its frame. Also returns the error
+    that ends the stream, with the message's number and offset, or None."""
     if form == "bare":
         if len(data) % 8:
             return [], (f"bare: NotWhole({len(data)})", 1, 0)
@@ -584,14 +587,15 @@ def messages(data, form, most):
 
 
 def line_of(fault):
-    """Returns the line on standard error for an error, from its text, the number of the message and its offset."""
+    """Returns the line on standard error for an error. It is made from the error's text, the number of the message and
+    its offset."""
     text, index, offset = fault
     return f"capn: message {index} at {offset}: {text}\n"
 
 
 def passed_line(passed, count):
     """Returns the line on standard error for skipped messages, from their numbers and offsets and the number of all
-    messages. Without skipped messages, returns no text."""
+    messages. Returns an empty text if no message was skipped."""
     if not passed:
         return ""
     index, offset = passed[0]
@@ -612,8 +616,8 @@ def listed(head, walk, segments, with_digest):
 
 
 def needed(greatest, found, tariff):
-    """Returns the lines of `limits`: the number of messages, and the greatest of each number, with the number of its
-    message."""
+    """Returns the lines of `limits`: the number of messages, and the greatest value of each number with the number of
+    its message."""
     most = 2**28
     words, paid, deep = (greatest[name][0] for name in greatest)
     lines = [f"messages {found}"]
@@ -626,9 +630,9 @@ def needed(greatest, found, tariff):
 
 def run(task, data, form="stream", message_words=8388608, keep_going=False, with_digest=False, count=False,
         only_canonical=False, **limits):
-    """Returns the output of a command that takes a stream of any length, what it writes to standard error, and its exit
-    status. The task is list, limits, canonical, uniq or filter. `with_digest` is for list, `count` for uniq, and
-    `only_canonical` for filter. The limits are those of the traversal."""
+    """Returns the output of a command that takes a stream of any length, its output on standard error, and its exit
+    status. The task is list, limits, canonical, uniq or filter. `with_digest` belongs to list, `count` to uniq, and
+    `only_canonical` to filter. The limits are those of the traversal."""
     found, fault = messages(data, form, message_words)
     out, passed, greatest = [], [], {"message-words": (0, 0), "budget": (0, 0), "depth": (0, 0)}
     kept = set()
@@ -689,7 +693,7 @@ def run_filter(data, canonical=False, **options):
 
 
 def apart(first, other):
-    """Returns the first lines in which the dumps of two canonical messages differ, each after its path."""
+    """Returns the first lines in which the dumps of two canonical messages differ. Each line follows its path."""
     texts = [Marked([it], 0, False, True).part(()).splitlines() + ["\tend"] for it in (first, other)]
     return next(both for both in zip(*texts) if both[0] != both[1])
 
@@ -732,7 +736,7 @@ def pick(data, form="stream", message_words=8388608, first=1, last=2**64 - 1):
 
 
 def pick_only(data, ranges, form="stream", message_words=8388608):
-    """Returns the same for `pick --only`, whose ranges ascend."""
+    """Returns the output of `pick --only`, the line on standard error, and the exit status. The ranges ascend."""
     found, fault = messages(data, form, message_words)
     out = b"".join(frame for _, frame, _ in (one for first, last in ranges for one in found[first - 1:last]))
     if fault is None or len(found) >= ranges[-1][1]:
@@ -752,7 +756,7 @@ def run_pick(data, to=2**64 - 1, only=None, **options):
 
 
 def only_message(data, form, message_words):
-    """Returns the segments of the one message of an input."""
+    """Returns the segments of an input that has to be one message."""
     if form == "bare":
         if len(data) % 8:
             raise Refused(f"bare: NotWhole({len(data)})")
@@ -771,7 +775,7 @@ def only_message(data, form, message_words):
 
 
 def canonical_of_one(data, form="stream", message_words=8388608, **limits):
-    """Returns the output of `canonical` for one message, the line on standard error, and its exit status. The limits
+    """Returns the output of `canonical` for one message, the line on standard error, and the exit status. The limits
     are those of the traversal."""
     try:
         walk = Walk(only_message(data, form, message_words), **limits)

@@ -1,5 +1,5 @@
-/* Refuses growths of a program that it is loaded into: those whose numbers are from REFUSE_FROM to REFUSE_TO. For each
-   it writes a byte to the descriptor REFUSE_TOLD. */
+/* Fails allocations of the program that loads it: those with the numbers from REFUSE_FROM to REFUSE_TO. For each it
+ * writes a byte to the descriptor REFUSE_TOLD. */
 #define _GNU_SOURCE
 #include <dlfcn.h>
 #include <stdlib.h>

@@ -1,5 +1,5 @@
-/* Takes a program's stack before the program begins: 1 MiB of it, so that what the program needs of it is there
-   whatever becomes of the memory. */
+/* Uses 1 MiB of the program's stack before the program begins. The stack then has the memory that the program needs,
+ * even if no other memory is left. */
 #include <string.h>
 
 __attribute__((constructor, noinline)) static void take_stack(void)

@@ -1,9 +1,10 @@
-"""Reads each pointer of each message as whatever it may be, as the programs of the other languages do.
+"""Reads each pointer of each message as every kind of object, as the programs of the other languages do.
 
-    anything.py any     of a stream: how many messages are accepted, how many pointers these have, and as how many
-                        things each of these can be read, all added up: a struct, a text, a data, a list of each kind
-    anything.py lines   of the messages of tests/c/mixed.py: a line for each of these pointers, or for a message that is
-                        rejected, as the head of tests/c/fields.c says
+    anything.py any     reads a stream. Prints how many messages are accepted, how many pointers they have, and how
+                        many readings succeed in total. A pointer is read as a struct, a text, a data, and a list of
+                        each kind.
+    anything.py lines   reads the messages of tests/c/mixed.py. Prints a line for each of these pointers and for each
+                        rejected message, as the head of tests/c/fields.c says.
 
 The messages are the standard input."""
 import sys
@@ -15,7 +16,7 @@ KINDS = ["null", "struct", "void", "bits", "bytes", "u16", "u32", "u64", "pointe
 
 
 def folded(numbers):
-    """Returns the sum of some numbers, in hexadecimal."""
+    """Returns a hash of some numbers, in hexadecimal."""
     total = START
     for number in numbers:
         total = (total ^ number & MASK) * PRIME & MASK
@@ -23,7 +24,7 @@ def folded(numbers):
 
 
 def of_struct(body):
-    """Returns the numbers of a struct."""
+    """Yields the numbers that are read from a struct."""
     for i in range(0, 256, 5):
         yield int(body.bool(i, (i + 1) % 2 != 0))
     for width in 8, 16, 32, 64:
@@ -38,14 +39,14 @@ def of_struct(body):
 
 
 def of_list(items, most, of_each):
-    """Returns the number of elements, and the numbers of the first of them."""
+    """Yields the number of elements, and the numbers of the first elements."""
     yield len(items)
     for i in range(min(len(items), most)):
         yield from of_each(items[i])
 
 
 def text_of(found):
-    """Returns the bytes of a text, which may not be UTF-8 in C."""
+    """Returns the bytes of a text. C returns these bytes even if they aren't UTF-8."""
     if not isinstance(found, (capn.Null, capn.Bytes)):
         raise capn.Mismatch(f"there is no text, but {found!r}")
     try:
@@ -62,14 +63,15 @@ def data_of(found):
 
 
 def elements_of(found):
-    """The elements of a list without size: one of structs, and of nothing else."""
+    """Returns the elements of a list whose elements have no size. It may only be a list of structs or of nothing."""
     if found.kind not in ("null", "void", "rows"):
         raise capn.Mismatch(f"there are no such elements, but {found!r}")
     return found.rows()
 
 
 def things(found):
-    """The things that a pointer is read as: for each the call, and the numbers of what the call returns."""
+    """Yields a pair for each kind of object that a pointer is read as. The pair has the call, and the function that
+    turns its result into numbers."""
     yield found.struct, of_struct
     for bytes_of in text_of, data_of:
         yield lambda: bytes_of(found), lambda data: (len(data), *data)
@@ -81,7 +83,8 @@ def things(found):
 
 
 def parts(found, shown):
-    """What a line has of each thing: what its numbers are shown as, or `-` where it can't be read as that."""
+    """Yields the words of a line. There is a word for each kind of object: its numbers as `shown` prints them, or `-`
+    if the pointer can't be read as this kind."""
     for call, numbers in things(found):
         try:
             answer = call()
@@ -108,7 +111,7 @@ def pointers(found):
 
 
 def any_of(stream):
-    """Returns the numbers of messages and of pointers, and how many ways of reading succeed for all pointers."""
+    """Returns the number of messages, the number of pointers, and how many readings succeed for all pointers."""
     messages = slots = read = 0
     for frame in capn.messages(stream, read_ahead=True):
         try:
@@ -123,7 +126,7 @@ def any_of(stream):
 
 
 def lines(stream):
-    """The lines of messages, each of which has its length before it."""
+    """Yields the lines of messages. Before each message stands its length."""
     while length := stream.read(4):
         try:
             root = capn.read(stream.read(int.from_bytes(length, "little"))).root

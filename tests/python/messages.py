@@ -1,8 +1,9 @@
 """Values, and the layouts in which a message may hold a value."""
 from tried import some
 
-# A value is None; ("struct", words, slots); ("list", code, count, bytes), of numbers; ("pointers", values); or ("rows",
-# words, slots, [(words, slots)]), in which each row has as many words and slots as the list says.
+# A value is one of these: None; ("struct", words, slots); ("list", code, count, bytes) for a list of numbers;
+# ("pointers", values); or ("rows", words, slots, [(words, slots)]). In the last, each row has as many words and slots
+# as the list says.
 NUMBERS = some.sampled_from([0, 0, 1, 1 << 63]) | some.integers(0, (1 << 64) - 1)
 BITS = {0: 0, 1: 1, 2: 8, 3: 16, 4: 32, 5: 64}
 
@@ -35,7 +36,7 @@ def values():
 
 
 def short(words, least=0):
-    """Returns the list without zero words, or null pointers, at its end."""
+    """Returns a list without the zero words or null pointers at its end."""
     end = len(words)
     while end > least and not words[end - 1]:
         end -= 1
@@ -43,7 +44,7 @@ def short(words, least=0):
 
 
 def trimmed(value):
-    """Returns the same value, without the words and pointers that mean nothing."""
+    """Returns an equal value without the words and pointers that mean nothing."""
     if value is None or value[0] == "list":
         return value
     if value[0] == "pointers":
@@ -62,7 +63,7 @@ def bare(value, backwards=False):
     segment = [0]
 
     def put(at, value):
-        """Writes the pointer at a word, and its object after all words that exist."""
+        """Writes the pointer at a word, and writes its object after all words that exist."""
         if value is None:
             return
         start, inner = len(segment), []
@@ -96,7 +97,7 @@ def bare(value, backwards=False):
 
 
 def stream(*segments):
-    """Returns segments after their table."""
+    """Returns segments with their segment table before them."""
     sizes = [len(segments) - 1, *(len(one) // 8 for one in segments)]
     table = b"".join(size.to_bytes(4, "little") for size in sizes)
     return table + bytes(len(table) % 8) + b"".join(segments)
@@ -109,7 +110,7 @@ def far(segment):
 
 @some.composite
 def hostile(draw):
-    """Returns bytes that may not be a message: random ones, or a message of which some bytes are changed or cut off."""
+    """Returns bytes that may not be a message. They are random, or are a message with some bytes changed or cut off."""
     if draw(some.booleans()):
         return draw(some.binary(max_size=200))
     written = bare(draw(values()), draw(some.booleans()))

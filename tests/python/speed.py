@@ -1,5 +1,5 @@
-"""Prints the time of calls of the package, in nanoseconds: the shortest of many. The first three lines are the parts of
-the time by which `capn.check` of a message of 32 bytes is slower than an empty Python call."""
+"""Prints the shortest of many times of each call of the package, in nanoseconds. `capn.check` of a message of 32 bytes
+is slower than an empty Python call: the first three lines are the parts of the difference."""
 import fcntl
 import io
 import os
@@ -10,7 +10,8 @@ import capn
 
 MESSAGE = bytes.fromhex("0000000003000000" "0000000002000000" "0500000000000000" "0000000000000000")
 CALLS, RUNS = 2000, 500
-# A message: a struct with a number, a text of 8 bytes, and a list of 12 structs, each of a word and a text.
+# A message, which is a struct with a number, a text of 8 bytes, and a list of 12 structs. Each of these has a word and
+# a text.
 ROWS = 12
 
 
@@ -60,12 +61,12 @@ def way(data):
 
 
 def cut(message):
-    """Returns a message of one segment without its last word, and with a table that announces it."""
+    """Returns a message of one segment without its last word. The segment table still counts this word."""
     return message[:4] + (len(message) // 8 - 2).to_bytes(4, "little") + message[8:-8]
 
 
 def streamed(**options):
-    """Returns a function that reads a stream of many messages. The time is for each message."""
+    """Reads a stream of many messages again and again. Returns the shortest time per message."""
     message, count = longer(), 2000
     data = capn.pack(message) * count if options.get("packed") else message * count
     file = io.BufferedReader(io.BytesIO(data))
@@ -78,13 +79,13 @@ def streamed(**options):
 
 
 def of_words(count):
-    """Returns a message whose segment has this many words: a struct of small numbers and texts in turn."""
+    """Returns a message with a segment of this many words. Its structs have small numbers and texts, in turn."""
     segment = [count - 1 << 32, *((at, int.from_bytes(b"abcdefg\0", "little"))[at % 2] for at in range(count - 1))]
     return b"".join(word.to_bytes(8, "little") for word in [count << 32, *segment])
 
 
 def piped(message, buffering, packed, runs=600):
-    """Returns a function that reads a pipe with 100 KB of messages. The time is for each message."""
+    """Reads a pipe with 100 KB of messages again and again. Returns the shortest time per message, in nanoseconds."""
     count, least = 100_000 // len(message), float("inf")
     data = (capn.pack(message) if packed else message) * count
     for _ in range(runs):

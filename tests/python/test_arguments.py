@@ -1,4 +1,4 @@
-"""Wrong arguments are rejected before any call of the library; what a refusal and limits hold."""
+"""Wrong arguments are rejected before any call of the library. Also tests what a refusal and limits contain."""
 import array
 import copy
 import mmap

@@ -1,5 +1,5 @@
-"""What a call holds and allocates: the caller's buffers after an exception, the memory of a call, and the order in
-which arguments are examined."""
+"""What a call keeps and allocates. Tests that an exception doesn't keep the caller's buffer, how much memory a call
+uses, and in which order it examines its arguments."""
 import ctypes
 import gc
 import mmap
@@ -25,7 +25,7 @@ GIB = 1 << 30
 
 
 class AfterAnException(unittest.TestCase):
-    """No exception holds the caller's buffer, nor does its traceback."""
+    """Neither an exception nor its traceback keeps the caller's buffer."""
 
     def calls(self, data):
         """Returns calls that read bytes in place and raise an exception."""
@@ -58,7 +58,7 @@ class AfterAnException(unittest.TestCase):
             yield lambda call=call: call([data], 5, in_place=True)
 
     def test_a_bytearray_can_be_changed(self):
-        # A message that no call accepts within a budget of one word, and that isn't whole words.
+        # No call accepts this message within a budget of one word. Its length isn't a multiple of a word.
         for bytes_of in SMALL, SMALL + b"x", stream(bytes.fromhex("0000000001000000")):
             data = bytearray(bytes_of)
             raised = 0
@@ -97,7 +97,7 @@ class AfterAnException(unittest.TestCase):
 
 class Pipes(unittest.TestCase):
     def test_an_exception_before_a_pipe_is_begun_closes_nothing(self):
-        # The memory of a pipe may have any device and inode numbers, also those of other files.
+        # The memory of a pipe may contain any device and inode numbers, even those of other files.
         class Interrupted(Exception):
             pass
 
@@ -151,7 +151,7 @@ class Memory(unittest.TestCase):
 
 
 def long():
-    """Calls on 5 GiB, with 8 GiB of address space."""
+    """Makes calls on 5 GiB with 8 GiB of address space."""
     import resource
 
     with tempfile.TemporaryFile() as file:
@@ -169,7 +169,7 @@ def long():
 
 
 def shown(data, form, limits):
-    """The bytes of a text that no call reads in place, since its length isn't known yet."""
+    """No call reads the bytes of this text in place, because its length isn't known yet."""
     with unittest.mock.patch.object(capn._show, "_taken", lambda data, form, limits, _: capn._calls._taken(
             data, form, limits, True)):
         return capn.show(data, form, limits)
@@ -214,12 +214,12 @@ class Shapes(unittest.TestCase):
 
 
 def mmapped():
-    """Returns a view of no bytes of a mapped file."""
+    """Returns an empty view of a mapped file."""
     return memoryview(mmap.mmap(-1, 8))[:0]
 
 
 class Segments(unittest.TestCase):
-    """Segments are counted before any of them is copied."""
+    """The number of segments is checked before any segment is copied."""
 
     def test_no_more_are_taken_than_say_so(self):
         taken = []

@@ -1,4 +1,5 @@
-"""Bytes that change while a call runs. They are copied first, unless the caller says that they don't change."""
+"""Bytes that change while a call runs. The call copies them first, unless the caller promises that they don't
+change."""
 import array
 import mmap
 import subprocess
@@ -9,9 +10,9 @@ import unittest
 import capn
 from messages import bare, stream
 
-# One thread makes pointers of a list lead far outside, and back again, while another thread makes the calls. If the
-# calls read the bytes in place, the process crashes within seconds, or gets wrong results. The arguments are the number
-# of seconds, and whether the calls read in place.
+# One thread moves pointers of a list far outside the message and back again, while another thread makes the calls. If
+# the calls read the bytes in place, the process crashes within seconds or gets wrong results. The arguments are the
+# number of seconds, and whether the calls read in place.
 RACE = """
 import sys, threading, time
 import capn
@@ -52,7 +53,7 @@ class Changing(unittest.TestCase):
         self.assertEqual((ran.returncode, ran.stdout), (0, "alive\n"), ran.stderr)
 
     def test_the_bytes_are_not_held_during_a_call(self):
-        # A list of pointers, all null, of 16 MiB, so that another thread runs while the call does.
+        # A list of 16 MiB of null pointers. The call takes so long that another thread runs meanwhile.
         count = (1 << 21) - 1
         data = bytearray(stream((1 | (6 | count << 3) << 32).to_bytes(8, "little") + bytes(8 * count)))
         for call in capn.check, capn.survey, capn.canonical, capn.digest, capn.read, capn.departure:

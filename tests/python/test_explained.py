@@ -1,5 +1,5 @@
-"""The place of an error, and the first difference from the canonical form: as a second reading of the pages gives them,
-as the stored answers of the program give them, and as the program gives them, if it is built."""
+"""The place of an error, and the first difference from the canonical form. Both are compared with a second
+implementation of the pages, with the stored answers of the program, and with the program itself, if it is built."""
 import dataclasses
 import random
 import re
@@ -29,18 +29,18 @@ def numbers(way):
 
 
 def said(out):
-    """Returns the lines of an explanation, by their keys."""
+    """Returns the lines of an explanation by their keys."""
     return dict(line.split(": ", 1) for line in out.decode().splitlines() if ": " in line)
 
 
 def explain(data, form="stream", limits=capn.Limits()):
-    """Returns the same for the second reading."""
+    """Returns the lines of the second implementation's explanation by their keys."""
     return said(explained.explain(data, form, **dataclasses.asdict(limits))[0])
 
 
 def stop(told, before=0):
-    """Returns the path and the byte that an explanation gives for an error, in a message that follows this many
-    bytes."""
+    """Returns the path and the byte of the error in an explanation. `before` is the number of bytes before the
+    message."""
     if "way" in told:
         return numbers(told["way"]), int(NUMBERS.search(told["slot"])[0]) - before
     return (), None
@@ -60,20 +60,19 @@ def stop_of(refusal):
 
 
 def segments_of(source):
-    """Returns the words of a message: random words, a message that is accepted but for one word, or one list of
-    bytes."""
+    """Returns the words of a message. It is random, or is accepted but for one word, or is one list of bytes."""
     kind = source.random()
     if kind < 0.3:
         return archives.segments_of(source)
     if kind < 0.5:
         return generated.message(source)
     if kind < 0.6:
-        # A list with bits after its last byte.
+        # A list that has bits set after its last byte.
         count = source.randint(1, 7)
         return [[1 | 2 << 32 | count << 35, source.getrandbits(8 * count + source.choice([0, 0, 8]))]]
     segments = archives.good(source)
     segment = source.choice([one for one in segments if one])
-    # One of the last words in most cases, since those are deep in the message.
+    # In most cases this is one of the last words, because these are deep in the message.
     at = max(source.randrange(len(segment)) for _ in range(3))
     wrong = [3 | source.randrange(4) << 32, generated.pointer(source, len(segment), len(segments))]
     segment[at] = source.choice([*wrong, segment[at] ^ 1 << source.randrange(64)])
@@ -81,7 +80,7 @@ def segments_of(source):
 
 
 def input_of(source):
-    """Returns a message, complete in most cases, in a random form, and its segments."""
+    """Returns a message in a random form, and its segments. In most cases the message is complete."""
     segments = segments_of(source)
     form, data = source.choice(["stream", "stream", "packed", "bare"]), archives.framed(segments)
     if form == "bare":
@@ -93,7 +92,7 @@ def input_of(source):
 
 class AsExplained(unittest.TestCase):
     def compare(self, data, form, limits, told, found):
-        """Makes all calls on one message. `found` counts the results."""
+        """Makes all calls on one message, and counts their results in `found`."""
         if told.get("accepted"):
             departure = capn.departure(data, form, limits)
             self.assertEqual(told["canonical"], "yes" if departure is None else f"no: {departure}")
@@ -156,7 +155,7 @@ class AsExplained(unittest.TestCase):
                     self.assertEqual(stop_of(refusal), stop_of(refused))
                     ways.add(refusal.way)
                     if refused.name == "TooManyWords":
-                        # From an iterator, no more segments are taken than are needed to exceed the limit.
+                        # From an iterator, a call takes no more segments than it needs to exceed the limit.
                         self.assertEqual(of_iterator.name, refused.name)
                         self.assertTrue(limits.message_words < of_iterator.at <= refused.at)
                     else:
@@ -165,8 +164,8 @@ class AsExplained(unittest.TestCase):
         self.assertGreater(len(ways), 10)
 
     def test_long_tables(self):
-        # The root is in the first segment. The last segment has a landing pad and a struct whose only word in the
-        # pointer section is not a pointer.
+        # The root is in the first segment. The last segment has a landing pad and a struct. The only word in the
+        # pointer section of this struct isn't a pointer.
         for count in 2, 3, 64, 65, 66, 4095, 4096:
             first = (2 | (count - 1) << 32).to_bytes(8, "little")
             last = struct.pack("<3Q", 1 << 48, 7 << 2 | 3, 0)
@@ -179,7 +178,7 @@ class AsExplained(unittest.TestCase):
             self.assertEqual(stop_of(refusal_of(capn.check_segments, [first, *between, last])), stop_of(refusal))
 
     def test_the_longest_way(self):
-        # 256 lists of structs, one inside the other, and a struct in the last one.
+        # 256 nested lists of structs, with a struct in the last one.
         words = []
         for _ in range(256):
             words += [1 | 7 << 32 | 1 << 35, 1 << 2 | 1 << 48]
@@ -196,7 +195,8 @@ class AsExplained(unittest.TestCase):
         tried = 0
         for case, answer in stored():
             words = case.split()
-            # With --keep-going each rejected message is explained as without it, and several messages are explained.
+            # Runs with --keep-going are left out. Such a run explains several messages, each as a run without this
+            # option does.
             if words[0] != "archive" or words[2] != "explain" or "--keep-going" in words:
                 continue
             form, bounds, options, data = "stream", {}, words[3:-1], bytes.fromhex(words[-1].replace("-", ""))
@@ -207,7 +207,8 @@ class AsExplained(unittest.TestCase):
                     name, bound = limit_of(option, value)
                     bounds[name] = bound
             told = said(bytes.fromhex(answer.split(", ")[1].replace("-", "")))
-            # Only the program explains errors of a segment table, of packing and of a length, and counts the messages.
+            # Only the program explains errors of a segment table, of packed bytes and of a length, and counts the
+            # messages.
             if "accepted" not in told and "way" not in told:
                 continue
             with self.subTest(case=case):

@@ -1,6 +1,6 @@
-"""Ten thousand generated messages, most of them hostile: each call returns what the library returns in C.
+"""Ten thousand generated messages, most of them hostile. Each call returns what the library returns in C.
 
-Needs a C compiler; without one, all of this is skipped."""
+The tests need a C compiler, and are skipped without one."""
 import os
 import random
 import shutil
@@ -20,7 +20,7 @@ TRIED = 10_000
 
 
 def calls():
-    """Lines for tests/c/vectors.c: for each message one or more calls, with a form and limits."""
+    """Lines for tests/c/vectors.c. For each message there are one or more calls with a form and limits."""
     source = random.Random(65)
     for _ in range(TRIED):
         words = generated.message(source) if source.random() < 0.7 else archives.good(source)
@@ -58,7 +58,7 @@ class Generated(unittest.TestCase):
             try:
                 got = answer(line.split())
             except capn.Refusal as refusal:
-                # For packed bytes alone, the program in C writes no form.
+                # The program in C writes no form for the call that takes only packed bytes.
                 got = str(refusal).removeprefix("packed: ") if line.startswith("unpack") else str(refusal)
             accepted += wanted.startswith("paid")
             with self.subTest(line=line):

@@ -1,5 +1,5 @@
-"""Streams with rejected messages: those after them are returned, each with its number and the offset at which it
-begins."""
+"""Streams with rejected messages. The messages after a rejected one are returned, and each message has its number and
+offset."""
 import asyncio
 import io
 import random
@@ -19,7 +19,7 @@ TIGHT = capn.Limits(budget=2)
 
 
 def told(found):
-    """Returns the bytes of a message or the digest, or the text of a refusal, its number and its offset."""
+    """Returns the bytes of a message, or its digest. For a refusal, returns its text, its number and its offset."""
     if isinstance(found, capn.Refusal):
         return str(found), found.name, found.number, found.offset
     return found
@@ -33,7 +33,7 @@ def ways(data, packed):
 
 
 def awaited(data, packed, **options):
-    """Returns the same for an asynchronous reader: all results, and the exception at the end."""
+    """Returns all results of an asynchronous reader, and the exception at the end."""
     async def run():
         reader, got = asyncio.StreamReader(), []
         reader.feed_data(data)
@@ -78,7 +78,7 @@ class KeepGoing(unittest.TestCase):
                      if isinstance(one, capn.Refusal)]
         self.assertEqual((refusal.number, refusal.offset, refusal.way, refusal.byte), (2, 32, (), 8))
         self.assertEqual((refusal.text, refusal.place), ("Range at 0:0, paid 0, visits 1", (0, 0)))
-        # The refusal holds no part of the reader.
+        # The refusal keeps no part of the reader alive.
         self.assertIsNone(refusal.__traceback__)
 
     def test_digests(self):
@@ -101,7 +101,7 @@ class KeepGoing(unittest.TestCase):
     def test_all_limits_count(self):
         self.assertEqual([told(one)[1] for one in capn.messages(SMALL * 2, limits=TIGHT, keep_going=True)],
                          ["OverBudget"] * 2)
-        # Without `keep_going` no message is checked.
+        # Without `keep_going` the reader checks no message.
         self.assertEqual(list(capn.messages(WRONG + SMALL, limits=TIGHT)), [WRONG, SMALL])
 
     def test_a_damaged_table_ends_the_stream(self):
@@ -162,8 +162,8 @@ class KeepGoing(unittest.TestCase):
 
 
 class OneSignature(unittest.TestCase):
-    """Both kinds of readers take the same arguments. Arguments of before `keep_going` was added still mean the
-    same."""
+    """Both kinds of readers take the same arguments. Positional arguments keep the meaning that they had before
+    `keep_going` was added."""
 
     def awaited(self, data, *arguments, **options):
         async def run():

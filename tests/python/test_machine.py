@@ -10,11 +10,11 @@ import capn
 from messages import stream
 from tried import IS_SANITIZED
 
-# The words of a segment whose root is a list of pointers, all null: 16 MiB.
+# The words of a segment whose root is a list of null pointers: 16 MiB.
 COUNT = (1 << 21) - 1
 SEGMENT = (1 | (6 | COUNT << 3) << 32).to_bytes(8, "little") + bytes(8 * COUNT)
 
-# 2^14 groups of 256 zero words: 32 MiB, from 32 KiB.
+# 2^14 groups of 256 zero words: 32 KiB that unpack to 32 MiB.
 START = """
 import capn, resource
 PACKED = b"\\0\\xff" * (1 << 14)
@@ -25,7 +25,7 @@ with open("/proc/self/statm") as file:
     used = int(file.read().split()[0]) * resource.getpagesize()
 resource.setrlimit(resource.RLIMIT_AS, (used + (8 << 20), resource.RLIM_INFINITY))
 """
-# A message of this many words, whose root is rejected.
+# A message of this many words, with a root that is rejected.
 REFUSED = """
 import struct
 try:
@@ -33,7 +33,7 @@ try:
 except capn.Refusal as refused:
     refusal = refused
 """
-# First without memory, and then with memory again.
+# The calls run without memory first, and then with memory again.
 WAY = """
 try:
     refusal.way
@@ -43,7 +43,7 @@ resource.setrlimit(resource.RLIMIT_AS, (resource.RLIM_INFINITY, resource.RLIM_IN
 print(refusal.way, refusal.byte)
 """
 
-# The text that docs/DIAGNOSTICS.md has for it.
+# The text for this error in docs/DIAGNOSTICS.md.
 PAGE = Path(__file__).resolve().parents[2] / "docs" / "DIAGNOSTICS.md"
 TEXT = re.search(r"^\| `([^`]+)` \| (?:memory was refused|(?:an|the) allocation failed|out of memory)\b",
                  PAGE.read_text(encoding="utf-8"), re.M)[1]
@@ -60,7 +60,7 @@ class Threads(unittest.TestCase):
         self.addCleanup(sys.setswitchinterval, sys.getswitchinterval())
 
     def test_another_thread_runs_during_each_call(self):
-        # No thread is forced to release the lock, so another thread runs only if a call releases it.
+        # No thread is forced to release the lock, so another thread runs only if a call releases the lock.
         sys.setswitchinterval(1000)
         message = stream(SEGMENT)
         packed, look = capn.pack(message), self.looks(message[:-8] + b"\7" + bytes(7))
@@ -78,7 +78,7 @@ class Threads(unittest.TestCase):
         return caught.exception._look
 
     def runs_beside(self, call):
-        """Returns whether this thread runs before the call of another one ends."""
+        """Returns whether this thread runs before a call in another thread ends."""
         started, ended = threading.Event(), []
 
         def run():
@@ -132,7 +132,7 @@ class Memory(unittest.TestCase):
         self.assertRegex(child(START, LITTLE, "capn.departure(PACKED, 'packed')"), "^MemoryError")
 
     def test_there_is_none_for_a_way(self):
-        # The path is searched for again once there is memory.
+        # Once there is memory, the path is searched for again.
         self.assertEqual(child(START, REFUSED, LITTLE, WAY), f"MemoryError: capn: {TEXT}\n() 8\n")
 
     def test_there_is_enough(self):

@@ -16,41 +16,41 @@ README = TOP / "python" / "README.md"
 MESSAGE = bytes.fromhex("0000000003000000" "0000000002000000" "0500000000000000" "0000000000000000")
 # A pointer to more words than the message has.
 WRONG = bytes.fromhex("0000000001000000" "0000000001000000")
-# Two children at pointer 1. One of them has the name "ab".
+# Two children at pointer 1. The first or second has the name "ab".
 CHILDREN = bytes.fromhex("0000000007000000" "0000000000000200" "0000000000000000" "0100000017000000" "0800000000000100"
                          "050000001a000000" "0000000000000000" "6162000000000000")
 TEXT = bytes.fromhex("0000000004000000" "0000000001000100" "0500000000000000" "0100000022000000" "6162630000000000")
 
 
 def children(words):
-    """Returns a message whose pointer 1 has this value, and the words that it refers to."""
+    """Returns a message whose pointer 1 has this value, followed by the words that this pointer refers to."""
     segment = bytes.fromhex("0000000000000200" "0000000000000000" + words)
     return bytes(4) + (len(segment) // 8).to_bytes(4, "little") + segment
 
 
 def blocks(page, language):
-    """Returns the blocks of a page in a language."""
+    """Returns the blocks of code of a page in a language."""
     return re.findall(rf"^```{language}\n(.*?)^```$", page.read_text(), re.M | re.S)
 
 
 def programs():
-    """Returns the programs of the page, each of which runs alone, and the program of the package's own page."""
+    """Returns the programs of the page and the program of the package's own page. Each runs alone."""
     return blocks(PAGE, "python") + blocks(README, "python")
 
 
 def program(named):
-    """Returns the one program of the page that contains a text."""
+    """Returns the only program of the page that contains a text."""
     [found] = [block for block in blocks(PAGE, "python") if named in block]
     return found
 
 
 def framed(words):
-    """Returns a message of this many words. The first word is a pointer to a struct of the second."""
+    """Returns a message of this many words. The first word is a pointer to a struct, which is the second word."""
     return bytes(4) + words.to_bytes(4, "little") + (1 << 32).to_bytes(8, "little") + bytes(8 * words - 8)
 
 
 def deep(levels):
-    """Returns this many structs, one inside the other."""
+    """Returns this many nested structs."""
     first = (levels << 32).to_bytes(8, "little")
     return first + (1 << 48).to_bytes(8, "little") * (levels - 1) + bytes(8)
 
@@ -76,7 +76,7 @@ class Page(unittest.TestCase):
         self.assertEqual(self.run_on(MESSAGE[:-8], first), (1, "rejected: frame: Cut\n"))
         self.assertEqual(self.run_on(MESSAGE * 2, first), (1, "rejected: trailing bytes at 32\n"))
         self.assertEqual(self.run_on(b"", first), (1, "rejected: frame: Empty\n"))
-        # The message has 1 MiB with its table. A longer one is rejected.
+        # The message has 1 MiB with its segment table. A longer message is rejected.
         most = framed((1 << 17) - 1)
         self.assertEqual(self.run_on(most, first), (0, f"{capn.digest(most).hex()}\n"))
         for longer, why in (
@@ -97,7 +97,7 @@ class Page(unittest.TestCase):
         for message, wrote in (
             (MESSAGE, "reading it costs 3 words and follows 1 pointers\nTrue\n"),
             (MESSAGE[:-8], "rejected: frame: Cut\nFalse\n"),
-            # Accepted within the default limits, and not within those of the page.
+            # The default limits accept this message, and the limits of the page reject it.
             (deep(41), "rejected: TooDeep at 0:32, paid 64, visits 33\nFalse\n"),
         ):
             asked = f"print(is_within_limits({message!r}))"
@@ -110,14 +110,15 @@ class Page(unittest.TestCase):
         self.assertEqual(self.run_on(MESSAGE, read), (0, "2 nobody\n"))
         self.assertEqual(self.run_on(bytes(4) + b"\1" + bytes(11), read), (0, "7 nobody\n"))
         self.assertEqual(self.run_on(CHILDREN, read), (0, "7 nobody\nab\nnobody\n"))
-        # In messages of an older writer, the children are texts or numbers. Each is read as a struct of that one field.
+        # In messages of an older writer, the children are texts or numbers. Each is read as a struct with only this
+        # field.
         self.assertEqual(self.run_on(children("0100000016000000" "0500000012000000" "0000000000000000"
                                               "6100000000000000"), read), (0, "7 nobody\na\nnobody\n"))
         for numbers in "0100000010000000", "0100000012000000", "0100000013000000", "0100000014000000":
             self.assertEqual(self.run_on(children(numbers + "0500000000000000"), read),
                              (0, "7 nobody\nnobody\nnobody\n"))
-        # Bits are not structs. Three bytes whose last one isn't zero are not a text. A list of bytes is not a struct,
-        # and a struct is not a list. A text may not be UTF-8.
+        # A list of bits isn't a list of structs. Three bytes aren't a text if the last byte isn't zero. A list of bytes
+        # isn't a struct, and a struct isn't a list. A text may not be UTF-8.
         for message, why in (
             (TEXT.replace(b"\x22", b"\x1a"), "the last byte of a text is zero"),
             (TEXT.replace(b"abc", b"\xffbc"), "'utf-8' codec can't decode byte 0xff"),
@@ -166,7 +167,7 @@ class Page(unittest.TestCase):
         exec(code, found)
         for sent, expected in (
             (capn.pack(MESSAGE) * 3, 3), (b"", 0),
-            # 64 KiB of such bytes unpack to more messages than one call returns.
+            # 64 KiB of these bytes unpack to more messages than one call returns.
             (capn.pack(MESSAGE) + b"\0\xff" * 4, "message 2 at 32: "),
             (capn.pack(MESSAGE * 2)[:-1], "message 2 at 32: packed: Cut at "),
         ):

@@ -1,7 +1,8 @@
-"""The calls return the results and the errors of the program, and read messages of the reference implementation as it
-does.
+"""The calls return the results and the errors of the program. They read messages of the reference implementation as the
+program does.
 
-The program is the one that CAPN names, or the one that `make program` builds; without it, all of this is skipped."""
+The program is the one that CAPN names, or the one that `make program` builds. Without a program, all tests are skipped.
+"""
 import os
 import random
 import shutil
@@ -25,7 +26,7 @@ settings.register_profile("program", deadline=None, max_examples=200, derandomiz
 
 
 def script(name):
-    """Returns a program of tests/reference, as a module."""
+    """Returns a program of tests/reference as a module."""
     spec = spec_from_loader(name, SourceFileLoader(name, str(REFERENCE / name)))
     module = module_from_spec(spec)
     spec.loader.exec_module(module)
@@ -39,7 +40,7 @@ def program(*words, data):
 
 
 def called(call, *arguments):
-    """Returns the same for a call."""
+    """Returns the output of a call, or the text of its error."""
     try:
         return call(*arguments)
     except capn.Refusal as refusal:
@@ -79,7 +80,7 @@ class Program(unittest.TestCase):
 
 @unittest.skipUnless(PROGRAM, "there is no program")
 class OfTheComparisons(unittest.TestCase):
-    """The messages on which the program is compared with the reference implementation."""
+    """The messages for which the program is compared with the reference implementation."""
 
     def test_a_thousand_messages(self):
         generated, source = script("generated"), random.Random(46)

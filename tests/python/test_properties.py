@@ -1,4 +1,4 @@
-"""Properties of every value and of any bytes, tested on random ones."""
+"""Properties that hold for every value and for any bytes. They are tested on random values and bytes."""
 import hashlib
 import unittest
 

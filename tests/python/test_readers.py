@@ -1,4 +1,4 @@
-"""Files whose `read` returns what no file should, and streams that come in many chunks."""
+"""Streams over files whose `read` returns wrong results, and streams that arrive in many chunks."""
 import asyncio
 import random
 import time
@@ -11,7 +11,7 @@ SMALL = bytes.fromhex("0000000003000000" "0000000002000000" "0500000000000000" "
 
 
 class Answering:
-    """A file that returns the given results, one after the other, and then no bytes."""
+    """A file that returns the given results in order, and then no bytes."""
 
     def __init__(self, *answers):
         self.answers = list(answers)
@@ -21,8 +21,8 @@ class Answering:
 
 
 def ways(begun, wrong):
-    """Yields the readers of a stream over a file that returns these results, after the beginning of a message if that
-    is wanted."""
+    """Yields the readers of a stream over a file that returns these results. If `begun` is set, the beginning of a
+    message comes first."""
     for packed in False, True:
         sent = capn.pack(SMALL) if packed else SMALL
         for ahead in False, True:
@@ -96,8 +96,8 @@ class Growth(unittest.TestCase):
         for packed in False, True:
             for ahead in False, True:
                 short, long = seconds(1 << 20, packed, ahead), seconds(1 << 23, packed, ahead)
-                # Eight times the bytes take about eight times as long. Quadratic work would take sixty-four times as
-                # long.
+                # Eight times the bytes take about eight times as long. With quadratic work they would take sixty-four
+                # times as long.
                 self.assertLess(long, 24 * short + 0.5)
 
 

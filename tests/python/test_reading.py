@@ -1,4 +1,4 @@
-"""Messages that are read in place, streams that are read in chunks, and summaries, compared with the model of
+"""Messages that are read in place, streams that are read in chunks, and summaries. All are compared with the model of
 tests/program."""
 import io
 import random
@@ -40,7 +40,7 @@ def tree(found):
 
 
 def walked(segments, **limits):
-    """Returns the traversal of a message by the model, or the text of its error."""
+    """Returns the model's traversal of a message, or the text of its error."""
     try:
         return model.Walk(segments, **limits)
     except model.Refused as refused:
@@ -48,7 +48,7 @@ def walked(segments, **limits):
 
 
 class Pieces(io.RawIOBase):
-    """A file that returns at most `most` bytes at once."""
+    """A file that returns at most `most` bytes for each read."""
 
     def __init__(self, data, most):
         super().__init__()

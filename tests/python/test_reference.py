@@ -1,6 +1,7 @@
-"""Compares every entry of an index with what the reference implementation's dynamic reader finds in the same message.
+"""Compares every entry of an index with the object that the reference implementation's dynamic reader finds in the same
+message.
 
-Needs its library and a C++ compiler; without them, all of this is skipped."""
+The tests need the reference implementation's library and a C++ compiler, and are skipped without them."""
 import collections
 import os
 import random
@@ -20,8 +21,7 @@ TRIED = 10_000
 
 
 def lines_of(found):
-    """Yields the object of a pointer and all below it, with a line for each pointer, as `tests/reference/places.c++`
-    writes it."""
+    """Yields a line for a pointer and a line for each pointer below it, as `tests/reference/places.c++` writes them."""
     kind, entry = found.kind, found._entry
     offset, first, second, below = -1, 0, 0, []
     if kind == "struct":
@@ -50,7 +50,8 @@ def ours(message):
 
 
 def places(folder):
-    """Returns the program over the reference implementation's reader, or None if that is not installed."""
+    """Compiles the program that uses the reference implementation's reader, and returns it. Returns None if the
+    reference implementation isn't installed."""
     program = os.path.join(folder, "places")
     made = [COMPILER, "-std=c++17", "-O1", "-o", program, str(REFERENCE / "places.c++"), "-lcapnp", "-lkj"]
     return program if COMPILER and subprocess.run(made, capture_output=True, check=False).returncode == 0 else None
@@ -76,7 +77,7 @@ class Entries(unittest.TestCase):
             if who == "both":
                 with self.subTest(message=message.hex()):
                     self.assertEqual(mine, their)
-        # Messages that only one of them accepts are those of docs/DIFFERENCES.md. The script `generated` checks these
+        # docs/DIFFERENCES.md lists the messages that only one of the two accepts. The script `generated` checks these
         # one by one.
         self.assertGreater(seen["both"], TRIED // 2)
         self.assertGreater(seen["neither"], TRIED // 20)

@@ -13,7 +13,7 @@ CALLS = [
     (capn.canonical, capn.canonical_segments),
     (capn.digest, capn.digest_segments),
 ]
-# The root is a far pointer to the second segment, where a struct of one word lies after its landing pad.
+# The root is a far pointer to the second segment. There, a struct of one word follows the landing pad.
 FIRST = bytes.fromhex("0200000001000000")
 SECOND = bytes.fromhex("0000000001000000" "0500000000000000")
 
@@ -57,11 +57,11 @@ class Segments(unittest.TestCase):
             self.assertEqual(capn.digest_segments(segments), digest)
         for segments in [bytearray(FIRST), bytearray(SECOND)], [bytearray(FIRST), memoryview(bytearray(SECOND))]:
             self.assertEqual(capn.digest_segments(segments, in_place=True), digest)
-            # No call holds a buffer after it has returned.
+            # No call keeps a buffer after it has returned.
             segments[0].append(0)
         self.assertEqual(capn.canonical_segments([FIRST, SECOND]), SECOND)
         self.assertEqual(capn.check_segments([FIRST, SECOND]), capn.Checked(paid=3, visits=1))
-        # Segments may overlap, and may be the same buffer.
+        # Segments may overlap, or be the same buffer.
         self.assertEqual(told(capn.check_segments, [FIRST, FIRST]), told(capn.check, stream(FIRST, FIRST)))
 
     def test_what_is_refused(self):

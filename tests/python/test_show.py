@@ -1,5 +1,5 @@
-"""The output of `capn.show` is that of the program: of its stored cases, of the model, and of the program, if it is
-built."""
+"""The output of `capn.show` is that of the program. It is compared with the stored cases, with the model, and with the
+program itself, if the program is built."""
 import random
 import re
 import subprocess
@@ -19,7 +19,7 @@ def limit_of(option, value):
 
 
 def ran(words, data):
-    """Returns the output of a run of `show`, the line on standard error, and its exit status."""
+    """Returns the output of a run of `show`, the line on standard error, and the exit status."""
     form, options, bounds, words, is_one = "stream", {}, {}, list(words), False
     while words:
         word = words.pop(0)
@@ -52,7 +52,7 @@ class Shown(unittest.TestCase):
         for case, answer in stored():
             found = RUN.fullmatch(case)
             words = found[1].split() if found else []
-            # A stored run of `show` has its message as its last word. Only the program has offsets and paths.
+            # The message is the last word of a stored run of `show`. Only the program has offsets and paths.
             if not found or not answer.startswith("status ") or answer.startswith("status 2"):
                 continue
             if {"--offsets", "--ways"} & set(words):
@@ -83,8 +83,8 @@ class Shown(unittest.TestCase):
                 self.assertEqual(ran(line[1:], data), (wrote.stdout, wrote.stderr.decode(), wrote.returncode))
 
     def test_a_part_is_shown_as_the_whole_is(self):
-        # One of them is called by the package, and the other by the library. A message that was read gives the same as
-        # its bytes.
+        # The package shows a part, and the library shows a whole message. Both give the same output for a message that
+        # was read as for its bytes.
         source, shown = random.Random(9), 0
         for _ in range(1000):
             data = archives.framed(archives.segments_of(source))
@@ -106,7 +106,7 @@ class Shown(unittest.TestCase):
         self.assertGreater(shown, 2000)
 
     def test_texts_in_json(self):
-        # Whole messages are shown by the library, and parts by the package, and both are compared with the model.
+        # The library shows whole messages, and the package shows parts. Both are compared with the model.
         source, texts = random.Random(10), 0
         some = ["", "a", "ä", "€", "😀", '"', "\\", "\t", "\n", "\r", "\0", "\x07", "\x7f", "\x80", "\x9f", "\xa0"]
         for _ in range(2000):
@@ -127,7 +127,7 @@ class Shown(unittest.TestCase):
         self.assertRaises(ValueError, capn.show, message)
 
     def test_deep(self):
-        # 256 lists of structs, one inside the other.
+        # 256 nested lists of structs.
         words = []
         for level in range(256):
             words += [1 | 7 << 32 | 1 << 35, 1 << 2 | 1 << 48]

@@ -1,9 +1,9 @@
-"""A handler of a signal raises an exception while a stream is read. No message may be lost or read twice.
+"""A signal handler raises an exception while a stream is read. No message may be lost or read twice.
 
-Python runs a handler after a call that it made, or when a function of its own begins. So a first run of a stream is
-made with an exception after the first such call in the package, the next one after the second call, and so on, in steps
-that grow, until none is left; each time reading goes on, and all messages have to come. Then signals
-themselves, while a pipe waits."""
+Python runs a handler after a call that it made, or when a Python function begins. So a test reads a stream many times.
+In the first run, an exception is raised after the first such call in the package, in the next run after the second
+call, and so on, in growing steps, until a run ends without an exception. After each exception reading goes on, and all
+messages have to come. Other tests send real signals while the reader waits for a pipe."""
 import gzip
 import io
 import os
@@ -22,7 +22,8 @@ from test_reading import Pieces
 from test_streams import SECONDS, SMALL, Blocking, Peeking
 
 LONG = stream(struct.pack("<IHH", 0, 600, 0) + bytes(range(1, 241)) * 20)
-# Messages of one segment and of two, of no words, equal ones beside each other, and one that is longer than a look.
+# Messages of one segment, of two segments, and without words, equal messages next to each other, and a message that is
+# longer than one look.
 MESSAGES = [SMALL, SMALL, stream(bytes(8), bytes(16)), stream(b""), SMALL, LONG, SMALL]
 
 
@@ -31,7 +32,7 @@ class Interrupted(Exception):
 
 
 def after(count):
-    """Raises an exception after this number of calls in the package, once."""
+    """Arranges that an exception is raised once, after this number of calls in the package."""
 
     def watch(frame, event, _):
         nonlocal count
@@ -44,7 +45,7 @@ def after(count):
 
 
 def taken(found):
-    """Returns the messages of a stream that goes on after each exception of the handler, and the number of these
+    """Reads a stream, and goes on after each exception of the handler. Returns the messages and the number of
     exceptions."""
     got, raised = [], 0
     try:
@@ -63,7 +64,7 @@ class EachCall(unittest.TestCase):
     """Raises an exception after each call that is made."""
 
     def files(self, data, folder):
-        """Returns functions that make files of these bytes."""
+        """Yields functions that make files of these bytes."""
         path = os.path.join(folder, "file")
         with open(path, "wb") as file:
             file.write(data)
@@ -100,7 +101,7 @@ class EachCall(unittest.TestCase):
         yield lambda: Peeking([data[:9], data[9:11], data[11:]])
 
     def each(self, data, make, wanted):
-        """Every message comes, whichever call an exception comes after."""
+        """Tests that every message comes, whichever call the exception follows."""
         with tempfile.TemporaryDirectory() as folder:
             for number, file_of in enumerate(self.files(data, folder)):
                 with self.subTest(file=number):
@@ -124,7 +125,7 @@ class EachCall(unittest.TestCase):
                               lambda file: capn.messages(file, packed, read_ahead=ahead), MESSAGES)
 
     def test_digests(self):
-        # one of no words has no digest, and would end the run
+        # a message without words has no digest, and would end the run
         messages = [it for it in MESSAGES if it != stream(b"")]
         self.each(b"".join(messages), capn.digests, [capn.digest(message) for message in messages])
 
@@ -166,7 +167,8 @@ class EachCall(unittest.TestCase):
 
 
 class Loops(unittest.TestCase):
-    """An exception of a handler ends a loop that goes on afterwards. It loses no message, and returns none twice."""
+    """A handler's exception ends a loop, which goes on afterwards. The loop loses no message, and returns none
+    twice."""
 
     def test_loops_go_on(self):
         is_in_loop, raised = False, 0
@@ -177,7 +179,7 @@ class Loops(unittest.TestCase):
                 is_in_loop = False
                 raise Interrupted
 
-        # The signals come by the processor time of the process, so each call has some time between two signals,
+        # The signals come by the processor time of this process. So each call has some time between two signals,
         # whatever else runs.
         before = signal.signal(signal.SIGVTALRM, handler)
         messages = [stream((2 << 32).to_bytes(8, "little") + number.to_bytes(16, "little")) for number in range(20000)]
@@ -208,7 +210,7 @@ class Loops(unittest.TestCase):
 
 
 class Signals(unittest.TestCase):
-    """Signals that come right after the chunks of a pipe or a socket. The handler raises while `next` runs."""
+    """Signals come right after the chunks of a pipe or a socket. The handler raises its exception while `next` runs."""
 
     def setUp(self):
         self.is_in_next = False
@@ -223,7 +225,7 @@ class Signals(unittest.TestCase):
         signal.signal(signal.SIGUSR1, self.before)
 
     def read(self, found):
-        """Returns the messages. A message that was counted when an exception came is the last one."""
+        """Returns the messages. If a message was counted when an exception came, `last` is that message."""
         got, raised, number = [], 0, 0
         while True:
             try:

@@ -1,4 +1,4 @@
-"""The source distribution builds alone, and nothing is written beside the sources for it."""
+"""The source distribution builds alone. Building it writes nothing beside the sources."""
 import glob
 import os
 import shutil
@@ -9,7 +9,7 @@ import tempfile
 import unittest
 import zipfile
 
-# A copy of the folder of the repository, which tests/python/run makes and names.
+# A copy of the repository's folder. tests/python/run makes it, and names it in CAPN_SOURCE.
 SOURCE = os.environ.get("CAPN_SOURCE", "")
 PRINTS = ("import capn; print(capn.digest(bytes.fromhex('00000000030000000000000002000000050000000000000000000000"
           "00000000')).hex(), capn.__file__)")
@@ -17,7 +17,7 @@ DIGEST = "6a3efd90ef3aebf0decabee51bbe92707bee76bb8f2830efd1bf615b14f61ac2"
 
 
 def setup(folder, *words):
-    """Runs the setup of a folder, which is to have no repository around it."""
+    """Runs the setup of a folder. The folder must have no repository around it."""
     env = {name: one for name, one in os.environ.items() if name not in ("CAPN_ARCHIVE", "LD_PRELOAD", "PYTHONPATH")}
     return subprocess.run([sys.executable, "-B", "setup.py", "-q", *words], cwd=folder, env=env, capture_output=True,
                           check=False, text=True)
@@ -27,7 +27,7 @@ def setup(folder, *words):
 class Sources(unittest.TestCase):
     def test_a_source_distribution_builds_alone(self):
         with tempfile.TemporaryDirectory() as folder:
-            # The repository's top, with the library at its place.
+            # The top of the repository, with the library in its place.
             top = os.path.join(folder, "top")
             shutil.copytree(os.path.dirname(SOURCE), top, ignore=shutil.ignore_patterns("build", "*.egg-info"))
             os.mkdir(os.path.join(top, "build"))

@@ -8,13 +8,13 @@ import capn
 CRATES = Path(__file__).resolve().parents[2] / "crates"
 CALLS = re.compile(
     r"(plain )?(canonicalise|is_canonical|survey|pack|unpack) .*|run \d+ hash --form (bare|stream) (?!--).*"
-    # Of the packed streams, only those of one message, whose digest is a line of 65 bytes.
+    # Of the packed streams, take only those of one message. Its digest is a line of 65 bytes.
     r"|run \d+ hash --form packed (?!--)[^|]*\|status 0, [0-9a-f]{130}"
 )
 
 
 def stored():
-    """Yields each case with its answer, which are the second and the third of its lines."""
+    """Yields each case with its answer. They are the second and the third of its three lines."""
     for file in sorted(CRATES.glob("conformance_*/cases/*")):
         for one in file.read_text().removesuffix("\n").split("\n\n"):
             _, case, answer = one.splitlines()
@@ -22,7 +22,7 @@ def stored():
 
 
 def cases():
-    """Returns the cases that a call can answer, with their answers. The others are for the program or for crates
+    """Returns the cases that a call can answer, with their answers. The other cases are for the program or for crates
     only."""
     return [both for both in stored() if CALLS.fullmatch("|".join(both))]
 
@@ -32,8 +32,8 @@ def digits(data):
 
 
 def hashed(data, form):
-    """Returns the exit status and the output of `capn hash`: a line for each message, up to the first that is
-    rejected."""
+    """Returns the exit status and the output of `capn hash`. The output has a line for each message up to the first
+    that is rejected."""
     lines = ""
     try:
         for message in (parted(data) if form == "stream" else [data]):
@@ -44,7 +44,7 @@ def hashed(data, form):
 
 
 def parted(data):
-    """Yields each message of a stream. The last one is returned as it is."""
+    """Yields each message of a stream. The last item has the remaining bytes."""
     while data:
         end = len(data)
         try:
@@ -83,7 +83,7 @@ class Stored(unittest.TestCase):
         answered = cases()
         self.assertGreater(len(answered), 500)
         for case, wanted in answered:
-            # The check of the library reports no capability, and its errors of unpacking name no form.
+            # In the library, a check reports no capability, and an error of unpacking names no form.
             wanted = re.sub(r", (no capability|capability \d+)$", "", wanted)
             wanted = re.sub(r"^(Cut|TooLong) at", r"packed: \g<0>", wanted)
             with self.subTest(case=case):

@@ -1,5 +1,5 @@
-"""Untrusted input: a message of another schema, of an older or a newer one, and a message with its table that passes
-for one without. Each exception that it causes is a `ValueError`."""
+"""Untrusted input. A message may have another schema or an older or a newer version of it, and a message with a segment
+table may be taken for one without. Each exception that such input causes is a `ValueError`."""
 import unittest
 import warnings
 
@@ -16,11 +16,12 @@ SMALL = bytes.fromhex("0000000003000000" "0000000002000000" "0500000000000000" "
 
 
 class Canonical(unittest.TestCase):
-    """`is_canonical` reads bare words, or, with a form, that form."""
+    """`is_canonical` reads bare words. With a form, it reads that form."""
 
     def test_a_frame(self):
-        # Read as bare words, the table is a pointer to a struct whose data is the segment. That is canonical, since its
-        # last word isn't zero. The message itself isn't: the last data word of its struct is zero.
+        # Read as bare words, the segment table is a pointer to a struct whose data is the segment. This struct is
+        # canonical, since its last word isn't zero. The message itself isn't canonical, since the last data word of its
+        # own struct is zero.
         loose = stream(bare(("struct", [5, 0], [text("abc")])))
         with self.assertWarnsRegex(DeprecationWarning, "^is_canonical without a form reads the words") as caught:
             self.assertTrue(capn.is_canonical(loose))
@@ -70,7 +71,7 @@ class Schemas(unittest.TestCase):
         self.assertEqual((root.word(0), root.word(1), root.slot(0).text()), (5, 0, "abc"))
         self.assertEqual((root.slot(1).kind, root.slot(1).struct().text(0, "none"), [*root.slot(1).list()]),
                          ("null", "none", []))
-        # The words are the stored ones, as a memoryview has them. `word` adds zeros.
+        # `words` has the stored words as a memoryview. `word` returns 0 beyond them.
         self.assertIsInstance(root.words, memoryview)
         for wrong in (lambda: root.words[1], lambda: root.slots[1], lambda: root.slot(0)[4],
                       lambda: root.slot(0).view[4]):
@@ -120,14 +121,14 @@ class Schemas(unittest.TestCase):
         self.assertGreater(min(answered, raised), 50)
 
     def test_lists_of_other_schemas(self):
-        # What each kind is read as: structs by their first number and the kind of their first pointer, numbers of 16
-        # bits, and the kinds of pointers. None where it can't be read so.
+        # Each value is read in three ways: as structs (their first number and the kind of their first pointer), as
+        # numbers of 16 bits, and as pointers (their kinds). None stands for an error.
         two = (0x10003).to_bytes(8, "little")
         for value, rows, numbers, pointers in (
             (None, [], [], []),
             (("list", 0, 2, b""), [(0, "null")] * 2, None, None),
             (("list", 1, 2, two), None, None, None),
-            # A number of 8 bits has no field of 16.
+            # A number of 8 bits is too short for a field of 16 bits.
             (("list", 2, 3, two), [(0, "null")] * 3, None, None),
             (("list", 3, 2, two), [(3, "null"), (1, "null")], [3, 1], None),
             (("list", 4, 1, two), [(3, "null")], None, None),
@@ -136,7 +137,7 @@ class Schemas(unittest.TestCase):
             (("pointers", [text("abc"), None]), [(0, "bytes"), (0, "null")], None, ["bytes", "null"]),
             (("rows", 1, 2, [([0x10003], [None, None]), ([4], [text("abc"), None])]), [(3, "null"), (4, "bytes")],
              [3, 4], ["null", "bytes"]),
-            # Structs without words have the default of the number, and those without pointers a null one.
+            # Structs without words read the number's default, and structs without pointers read a null pointer.
             (("rows", 1, 0, [([5], [])]), [(5, "null")], [5], ["null"]),
             (("rows", 0, 1, [([], [text("abc")])]), [(0, "bytes")], [0], ["bytes"]),
             (("rows", 0, 0, [([], [])] * 2), [(0, "null")] * 2, [0, 0], ["null", "null"]),
@@ -178,7 +179,7 @@ class Schemas(unittest.TestCase):
         self.assertEqual((len(rows), rows[-1].uint(16, 0), rows[0].uint(16, 1, 9), rows[0].text(0, "none")),
                          (2, 1, 9, "none"))
         self.assertEqual([row.word(0) for row in rows[1:]], [1])
-        # A missing element is a `ValueError` too, since the sender chooses how many elements there are.
+        # A missing element is a `ValueError`, too, since the sender chooses how many elements there are.
         null, numbers = of(None), of(("rows", 1, 1, [([5], [None])]))
         for wrong in (lambda: rows[2], lambda: null.list()[0], lambda: null.rows()[0], lambda: null.numbers(16)[0],
                       lambda: null.pointers()[0], lambda: numbers.numbers(16)[1], lambda: numbers.pointers()[1]):
@@ -187,7 +188,7 @@ class Schemas(unittest.TestCase):
         self.assertEqual((of(None).list().kind, len(of(None).list())), ("null", 0))
 
     def test_a_field_that_is_wider_than_the_number_of_an_older_list(self):
-        # Each list of numbers, read as structs: a field within the number has its bits, and any other field has its
+        # Each list of numbers is read as structs. A field inside the number has its bits, and any other field has its
         # default.
         stored = (0x8877665544332281).to_bytes(8, "little")
         for width, code in (8, 2), (16, 3), (32, 4), (64, 5):
@@ -206,7 +207,7 @@ class Schemas(unittest.TestCase):
             for bit in range(70):
                 is_set = bit < width and bool(stored[bit // 8] >> bit % 8 & 1)
                 self.assertEqual((row.bool(bit), row.bool(bit, True)), (is_set, not is_set))
-        # The byte 5, read by a schema that has a number of 16 bits with the default 7.
+        # The byte 5 is read with a schema that has a number of 16 bits with the default 7.
         message = b"".join(word.to_bytes(8, "little") for word in (1 << 48, 1 | (2 | 1 << 3) << 32, 5))
         self.assertEqual(capn.read(message, "bare").root.struct().slot(0).rows()[0].uint(16, 0, default=7), 7)
 
@@ -227,7 +228,7 @@ class Schemas(unittest.TestCase):
                 self.assertRaises(capn.Mismatch, wrong)
 
     def test_texts_and_data(self):
-        # An error that the sender causes is a `Mismatch`, whatever else it is.
+        # An error that the sender causes is always a `Mismatch`. It may have other classes, too.
         values = [None, ("struct", [1], [None]), ("list", 0, 3, b""), ("list", 1, 3, bytes(8)), text("abc"),
                   ("list", 3, 1, bytes(8)), ("pointers", [None]), ("rows", 1, 1, [([5], [None])]),
                   ("list", 2, 3, b"abc" + bytes(5)), ("list", 2, 0, b""), ("list", 2, 3, b"\xff\xfe\0" + bytes(5))]

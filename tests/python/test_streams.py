@@ -1,5 +1,5 @@
-"""Streams that come in chunks: which messages are returned when, what is left unread, and the state after an
-exception."""
+"""Streams that arrive in chunks. Tests when each message is returned, which bytes are left unread, and the state after
+an exception."""
 import asyncio
 import bz2
 import contextlib
@@ -24,7 +24,7 @@ from messages import stream
 from test_reading import Pieces, archives, generated, model
 
 SMALL = bytes.fromhex("0000000003000000" "0000000002000000" "0500000000000000" "0000000000000000")
-# Messages of one segment and of two, of no words, and one that is longer than a chunk.
+# Messages of one segment, of two segments, and without words, and a message that is longer than a chunk.
 SHAPES = [
     SMALL,
     stream(bytes(8), bytes(16)),
@@ -35,7 +35,7 @@ SECONDS = 20
 
 
 def in_time(call, *arguments):
-    """Returns the result of a call that another thread makes, if it comes in time."""
+    """Makes a call in another thread, and returns its result if it comes in time."""
     answers = []
     thread = threading.Thread(target=lambda: answers.append(call(*arguments)), daemon=True)
     thread.start()
@@ -44,7 +44,7 @@ def in_time(call, *arguments):
 
 
 class Blocking:
-    """A file that returns chunks, and None if it has no bytes now. It raises the chunks that are exceptions."""
+    """A file that returns chunks, and None if it has no bytes now. A chunk that is an exception is raised."""
 
     def __init__(self, pieces):
         self.pieces, self.read_at_all = list(pieces), 0
@@ -64,7 +64,7 @@ class Blocking:
 
 
 class Peeking(Blocking):
-    """The same file, with `peek`, which reaches as far as one chunk goes."""
+    """A `Blocking` file with `peek`, which sees no further than one chunk."""
 
     def peek(self, size=0):
         while self.pieces and self.pieces[0] == b"":
@@ -115,7 +115,7 @@ class AsSoonAsItIsThere(unittest.TestCase):
 
 class NoByteAfterIt(unittest.TestCase):
     def files(self, data, folder):
-        """Yields the files that have these bytes, each with a function that returns how many are left."""
+        """Yields the files that have these bytes."""
         path = os.path.join(folder, "file")
         with open(path, "wb") as file:
             file.write(data)
@@ -185,8 +185,8 @@ class NoByteAfterIt(unittest.TestCase):
         self.assertGreater(seen, 500)
 
     def test_bytes_that_come_one_by_one_are_unpacked_once(self):
-        # 60,000 bytes that don't pack well, through a buffer of one byte. If each byte unpacked all bytes before it
-        # again, this would take seconds.
+        # 60,000 bytes that don't pack well, through a buffer of one byte. This would take seconds if each byte unpacked
+        # all earlier bytes again.
         message = stream(random.Random(70).randbytes(60_000))
         sent, start = capn.pack(message), time.process_time()
         found = capn.messages(io.BufferedReader(io.BytesIO(sent), 1), packed=True)
@@ -228,14 +228,15 @@ class NoByteAfterIt(unittest.TestCase):
             self.assertIn(file.read(), (b"after", sent + b"after"))
 
     def test_a_group_that_two_messages_share(self):
-        # 256 words of zeros in one group: many messages of no words, and a part of one.
+        # 256 zero words in one group: many messages without words, and a part of a message.
         text = capn.pack(SMALL * 3 + stream(b"") * 10 + SMALL)
         for file in io.BytesIO(text), Blocking([text]), Peeking([text]):
             self.assertEqual(list(capn.messages(file, packed=True)), [SMALL] * 3 + [stream(b"")] * 10 + [SMALL])
 
 
 class Wound(unittest.TestCase):
-    """Files with `seek`: messages that a look has found are returned only while the file is where they are."""
+    """Files with `seek`. A reader may look ahead and find messages. It returns them only while the file's position is
+    still theirs."""
 
     def files(self, data, folder):
         path = os.path.join(folder, "file")
@@ -249,7 +250,8 @@ class Wound(unittest.TestCase):
         yield Failing(data)
 
     def each(self, parts, run):
-        """Runs the test on each kind of file of these parts, packed and not, with the function that packs them."""
+        """Runs the test on each kind of file of these parts, both packed and unpacked. The test gets the bytes of each
+        part as the file has them."""
         with tempfile.TemporaryDirectory() as folder:
             for packed in False, True:
                 sent = [capn.pack(part) if packed else part for part in parts]
@@ -273,7 +275,7 @@ class Wound(unittest.TestCase):
         self.each(parts, run)
 
     def test_it_is_wound(self):
-        # The long messages come last: a look sees only the beginning of them.
+        # The long messages come last, because a look sees only their beginning.
         parts = [SMALL, SHAPES[1], SMALL, SMALL] + [stream(random.Random(73).randbytes(40_000))] * 2
 
         def run(file, found, sent):
@@ -410,7 +412,7 @@ class Wound(unittest.TestCase):
 
 
 class Failing(io.BytesIO):
-    """A file with `peek`, one call of which fails before it does anything."""
+    """A file with `peek`. One call of `peek` fails before it does anything."""
 
     fails = 0
 
@@ -477,7 +479,7 @@ class AfterAnException(unittest.TestCase):
                     self.assertRaises(StopIteration, next, found)
 
     def pipes(self):
-        """Pipes, buffered and not, with the function that packs the messages for them."""
+        """Buffered and unbuffered pipes, each with the function that packs the messages for it."""
         for buffering in 0, -1:
             for packed in False, True:
                 read, write = os.pipe()
@@ -782,13 +784,13 @@ class Splitters(unittest.TestCase):
                 self.assertEqual(refused, fault)
 
     def test_memory_that_is_there_later(self):
-        # A frame of several segments takes memory to be found.
+        # Finding a message of several segments allocates memory.
         message, ffi = SHAPES[1], capn._packed.ffi
         look = ffi.typeof("capn_look *")
         refusals = []
 
         def once(call):
-            """Makes the same call, which returns once that there is no memory, in place of its result."""
+            """Returns the same call, except that the first call that succeeds reports that memory is out."""
             def little(*words):
                 status = call(*words)
                 if status == 0 and not refusals:
@@ -801,7 +803,8 @@ class Splitters(unittest.TestCase):
             return little
 
         def once_of_one(call):
-            """Does the same for the call that looks at one message. It returns a number of bytes, so 0 is a failure."""
+            """Does the same for the call that looks at one message. This call returns a number of bytes, so 0 is a
+            failure."""
             def little(text, size, one):
                 taken = call(text, size, one)
                 if taken and not refusals:
@@ -949,7 +952,7 @@ class Files(unittest.TestCase):
         self.assertEqual(list(found), [])
 
     def test_memory_grows_as_bytes_come(self):
-        # A table announces 64 MiB, and little comes.
+        # The segment table announces 64 MiB, and few bytes come.
         asked = []
 
         class File:

@@ -1,5 +1,5 @@
-"""One stream that two calls use at once: of two threads, of a signal's handler, of two tasks. The second call raises
-`ValueError`, and no message is lost, read twice or changed."""
+"""Two calls use one stream at once. They come from two threads, from a signal's handler, or from two tasks. The second
+call raises `ValueError`. No message is lost, read twice or changed."""
 import asyncio
 import collections
 import io
@@ -20,7 +20,7 @@ SECONDS = float(os.environ.get("CAPN_SECONDS", "0.7"))
 
 
 def numbered(count):
-    """Returns this many messages, no two of which are equal. Each is a struct of words."""
+    """Returns this many different messages. Each is a struct of words."""
     source, made = random.Random(3), []
     for number in range(1, count + 1):
         words = source.choice([2, 4, 39, 199])
@@ -30,7 +30,7 @@ def numbered(count):
 
 
 def each_kind(sent, folder):
-    """Yields the kinds of streams of these messages, by name, each with a function that makes it."""
+    """Yields the kinds of streams of these messages. Each has its name and a function that makes the stream."""
     packed = list(map(capn.pack, sent))
 
     def on_disk(parts, buffering):
@@ -69,7 +69,7 @@ def close(file):
 
 
 class Workers:
-    """Threads that take messages from one stream, until it ends."""
+    """Threads that take messages from one stream until it ends."""
 
     def __init__(self, take):
         self.take, self.got, self.busy, self.wrong = take, [], 0, []
@@ -140,7 +140,7 @@ def stress(until):
 
 class TwoThreads(unittest.TestCase):
     def test_workers_that_share_a_stream(self):
-        # This runs in a process of its own, which a memory error would end.
+        # This runs in a process of its own, because a memory error would end the process.
         ran = subprocess.run([sys.executable, "-B", __file__, "stress"], capture_output=True, text=True, timeout=500)
         self.assertEqual((ran.returncode, ran.stderr), (0, ""), ran.stdout)
         self.assertRegex(ran.stdout, r"^busy [1-9]\d*\n$")
@@ -170,10 +170,11 @@ class TwoThreads(unittest.TestCase):
 
 
 class Handlers(unittest.TestCase):
-    """The handler of a signal calls the stream that was being read when the signal came."""
+    """When a signal comes, its handler calls the stream that is being read."""
 
     def reads_in_between(self, found, call, wanted):
-        """Makes another call from inside the package's first call of C, which has to fail: the stream is in use."""
+        """Makes another call from inside the package's first call of C. The stream is in use, so the other call has to
+        fail."""
         wrong, got = [], []
 
         def watch(frame, event, _):

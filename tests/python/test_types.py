@@ -1,4 +1,4 @@
-"""The declared types, at run time and for mypy, which also reads the programs of the page."""
+"""The declared types, at run time and for mypy. mypy also reads the programs of the page."""
 import inspect
 import os
 import shutil
@@ -13,7 +13,7 @@ import capn
 from test_page import programs
 
 SITE = Path(capn.__file__).resolve().parents[1]
-# What a reader may do with each kind, and what mypy has to find wrong.
+# A program with what a reader may do with each kind of object, and with the errors that mypy has to find.
 KINDS = """
 import capn
 from typing import assert_type

@@ -1,4 +1,4 @@
-"""Packed bytes that unpack to very many: how much of them is unpacked, and when."""
+"""Packed bytes that unpack to very many bytes. Tests how many of them are unpacked, and when."""
 import io
 import random
 import tracemalloc
@@ -10,13 +10,13 @@ from messages import stream
 from test_reading import archives, generated, model
 
 EMPTY = stream(b"")
-# The packed bytes of 256 words of zeros, which are as many messages without words.
+# The packed bytes of 256 zero words. Each word is a message without words.
 MANY = b"\x00\xff"
 MIB = 1 << 20
 
 
 def peak(call):
-    """Returns the result or the exception of a call, and the most memory that it took."""
+    """Returns the result or the exception of a call, and the most memory that the call used."""
     tracemalloc.start()
     try:
         try:
@@ -143,7 +143,7 @@ class Streams(unittest.TestCase):
 
     def test_every_other_way(self):
         class Plain:
-            """A file without `peek`, which returns all that it has."""
+            """A file without `peek`. A read returns all bytes that it has."""
 
             def __init__(self, data):
                 self.data = [data]

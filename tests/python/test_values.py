@@ -29,7 +29,7 @@ def of(value):
 
 
 def text(written):
-    """Returns a text, as a value of `messages`."""
+    """Returns a text as a value of `messages`."""
     return "list", 2, len(written) + 1, written.encode() + bytes(8 - len(written) % 8)
 
 
@@ -212,15 +212,16 @@ class Objects(unittest.TestCase):
             (lambda i: rows_of[i].words[0], lambda i: root.slots[0][i].words[0]),
             (lambda i: items[i][0], lambda i: root.slots[1][i][0]),
         ]:
-            # If each access made the list of 3,000 places again, this would take over 100 times as long as with a list
-            # that is held.
+            # The list of 3,000 places is made once. If each access made it again, this would take over 100 times as
+            # long.
             self.assertLess(seconds(again), 20 * seconds(held) + 0.05)
         self.assertEqual([root.slots[0][i].words[0] for i in range(3000)], list(range(3000)))
         self.assertEqual(rows_of[2999].slots[0].text(), "a")
 
 
 class Fields(unittest.TestCase):
-    """Values that are read by a schema, in messages that the program of the reference implementation wrote by it."""
+    """A program of the reference implementation wrote these messages with a schema. The values are read with the same
+    schema."""
 
     def encoded(self, kind, written):
         if not shutil.which("capnp"):
@@ -264,7 +265,7 @@ class Fields(unittest.TestCase):
         new = self.encoded("New", written.format("[(number = 1), (number = 2, name = \"x\")]"))
         self.assertEqual((self.fields(old), self.fields(new)), (wanted, wanted))
         self.assertEqual((old.slots[1].kind, new.slots[1].kind), ("u16", "rows"))
-        # Read by the newer type, also in the older message.
+        # The newer type also reads the older message.
         self.assertEqual((old.uint(64, 6, 9), new.uint(64, 6, 9), old.text(2), new.text(2, "x")), (9, 9, "", "x"))
 
     def test_the_number_of_the_review(self):
@@ -397,8 +398,8 @@ class HowMany(unittest.TestCase):
         self.assertRaises(TypeError, capn.read, data, most_slots=1.0)
 
     def test_few_bytes_have_many_slots(self):
-        # Three lists of 193 pointers. Each pointer of the first two leads to the next list, so each list is visited
-        # once for each pointer to it.
+        # Three lists of 193 pointers. Each pointer of the first two lists refers to the next list. So each list is
+        # visited once for each pointer to it.
         count, words = 193, [1 | 6 << 32 | 193 << 35]
         for _ in range(2):
             words += [count - 1 - i << 2 | 1 | 6 << 32 | count << 35 for i in range(count)]

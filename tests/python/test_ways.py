@@ -1,4 +1,5 @@
-"""The place of an error, and what a refusal holds of the message; the first difference from the canonical form."""
+"""The place of an error, the parts of the message that a refusal keeps, and the first difference from the canonical
+form."""
 import copy
 import dataclasses
 import gc
@@ -12,8 +13,8 @@ import capn
 from messages import far, stream
 from test_explained import CALLS, SEGMENTS, explain, refusal_of, stop, stop_of
 
-# The root is a struct of 1 word and 2 pointers. The first is null, and the second refers to a list of more bytes than
-# the message has.
+# The root is a struct of 1 word and 2 pointers. The first pointer is null, and the second refers to a list of more
+# bytes than the message has.
 WORDS = [1 << 32 | 2 << 48, 5, 0, 1 | 2 << 32 | (1 << 28) << 35]
 BARE = struct.pack("<4Q", *WORDS)
 REFUSED = stream(BARE)
@@ -29,8 +30,8 @@ class Refusals(unittest.TestCase):
                     self.assertEqual(stop_of(refusal), ((1,), byte))
                 self.assertEqual(stop_of(refusal_of(capn.show, kind(data), form)), ((1,), byte))
         self.assertEqual(stop_of(refusal_of(capn.is_canonical_words, BARE)), ((1,), 24))
-        # The error is at the pointer of the root, or there is no root. For a far pointer the place is the pointer, not
-        # its landing pad.
+        # The error is at the root pointer, or there is no root. For a far pointer, the place is the pointer and not its
+        # landing pad.
         self.assertEqual(stop_of(refusal_of(capn.check, stream(bytes(4) + b"\1" + bytes(3)))), ((), 8))
         self.assertEqual(stop_of(refusal_of(capn.check, far(BARE))), ((1,), 48))
         self.assertEqual(stop_of(refusal_of(capn.check, far(b""))), ((), 16))
@@ -53,7 +54,7 @@ class Refusals(unittest.TestCase):
         self.assertEqual(stop_of(capn.Refusal("Range at 0:3, paid 0, visits 0", "Range", (0, 3))), (None, None))
 
     def test_of_a_stream(self):
-        # The offset counts from the start of its message, whose own offset is given beside it.
+        # The offset counts from the start of its message. The offset of the message itself is given next to it.
         good = stream(bytes(8))
         for packed in False, True:
             data = good * 2 + REFUSED + good
@@ -91,7 +92,7 @@ class Refusals(unittest.TestCase):
 
 
 class Held(unittest.TestCase):
-    """Tests what a refusal holds of a message."""
+    """Tests what a refusal keeps of a message."""
 
     def test_bytes_until_it_is_asked(self):
         for given, form in (REFUSED, "stream"), (capn.pack(REFUSED), "packed"):
@@ -105,8 +106,8 @@ class Held(unittest.TestCase):
             self.assertEqual(refusal.way, (1,))
 
     def let_go(self, call, given, then, wanted=((1,), 32), **options):
-        """Returns the result of a function on the bytes that were rejected, in the handler, while the traceback still
-        holds what the call had."""
+        """Makes a call that rejects its message, and calls `then` in the handler, while the traceback still holds the
+        objects of the call. The refusal has to give the wanted path and byte afterwards."""
         try:
             call(given, **options)
         except capn.Refusal as refusal:

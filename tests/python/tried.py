@@ -1,5 +1,5 @@
-"""Hypothesis, or, if it is not installed, a stand-in that skips the tests that need it. Also says whether the module
-runs under sanitizers, which take more address space than a test may leave."""
+"""Hypothesis, or a stand-in that skips the tests that need Hypothesis if it isn't installed. Also says whether the
+module runs under sanitizers, which need more address space than a test may allow."""
 import os
 import unittest
 
@@ -9,7 +9,7 @@ try:
 except ImportError:
 
     class Absent:
-        """Stands for strategies. The values that it makes are never used, since no such test runs."""
+        """Stands in for the strategies of Hypothesis. Its values are never used, since no test that needs them runs."""
 
         def __getattr__(self, name):
             return self
@@ -21,7 +21,7 @@ except ImportError:
             return self
 
     class Settings(Absent):
-        """Stands for settings, and leaves a test unchanged."""
+        """Stands in for the settings of Hypothesis, and leaves a test unchanged."""
 
         def __call__(self, *words, **options):
             return lambda test: test
