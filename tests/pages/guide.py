@@ -1,8 +1,9 @@
 #!/usr/bin/env python3
-"""Runs every `sh` and `bash` block of docs/GUIDE.md, in order, each in a shell of its own and all in one folder.
+"""Runs every `sh` and `bash` block of docs/GUIDE.md in order. Each block has a shell of its own, and all run in one
+folder.
 
-Where a `text` block follows, the output must be that block. CAPN names the program; the shells are those of the
-arguments that are installed. Says which block is left out, since a tool isn't there.
+If a `text` block follows, the output must be that block. CAPN names the program. The arguments name shells, and each
+installed shell among them is used. The script prints which block is left out because a tool is missing.
 
     CAPN=path tests/pages/guide.py dash bash
 """
@@ -20,7 +21,7 @@ BLOCK = re.compile(r"^```(sh|bash|text)\n(.*?)^```$", re.M | re.S)
 
 
 def pairs(page):
-    """Yields each block, with its language and the output that the page shows, or None."""
+    """Yields each block with its language, and with the output that the page shows or None."""
     found = BLOCK.findall(page)
     for at, (language, block) in enumerate(found):
         if language != "text":
@@ -29,7 +30,7 @@ def pairs(page):
 
 
 def tried(shell, capn):
-    """Returns how many blocks ran, and how many printed other output than the page shows."""
+    """Returns how many blocks ran, and how many of these printed another output than the page shows."""
     ran = wrong = 0
     with tempfile.TemporaryDirectory() as folder:
         here = Path(folder)
@@ -63,7 +64,8 @@ def tried(shell, capn):
 
 
 def main():
-    # The scripts of contrib/ take another program from CAPN: here they take the one of the path, as the page has it.
+    # CAPN would give the scripts of contrib/ another program. Here they use the program of the search path, as on the
+    # page.
     capn = os.environ.pop("CAPN", "") or str(TOP / "crates" / "capn" / "out" / "capn")
     failed = 0
     for shell in filter(shutil.which, sys.argv[1:] or ["sh"]):

@@ -1,11 +1,12 @@
 /* Calls the functions of the examples of docs/C.md. It is linked with the blocks of the page, each compiled alone.
  *
- *     hostile CALL [DEPTH] < MESSAGE   calls one function on standard input, with the limit on depth
- *     hostile sign KEY < MESSAGE       writes a signature, with -DSIGNS
+ *     hostile CALL [DEPTH] < MESSAGE   calls one function on standard input, with this limit on depth
+ *     hostile sign KEY < MESSAGE       writes a signature, if it was compiled with -DSIGNS
  *     hostile verify KEY SIGNATURE < MESSAGE
- *     hostile all ROUNDS FILE..        calls all of them on each file and on changed copies of it, and compares some
+ *     hostile all ROUNDS FILE..        calls all functions on each file and on changed copies of it, and compares
+ *                                      some results
  *
- * Each message lies in a block of its own, so that a sanitizer sees a read past it. */
+ * Each message lies in a block of its own, so that a sanitizer detects a read past the end. */
 #include <capn.h>
 #include <capn_fields.h>
 #include <stdio.h>
@@ -39,7 +40,7 @@ static uint32_t draw(void) {
     return (uint32_t)(seed >> 11);
 }
 
-/* The example of lists, on the root of a message. */
+/* Calls the example of lists on the root of a message. */
 static int lists_of(const uint8_t *bytes, size_t size, const capn_limits *limits) {
     size_t count;
     if (capn_count_entries(CAPN_STREAM, bytes, size, limits, &count, NULL) != CAPN_OK) return 0;
@@ -51,7 +52,7 @@ static int lists_of(const uint8_t *bytes, size_t size, const capn_limits *limits
     return is_read;
 }
 
-/* What the calls say of one message has to agree. */
+/* The results of the calls for one message have to agree. */
 static void call_all(const uint8_t *given, size_t size, const capn_limits *limits) {
     uint8_t *bytes = malloc(size ? size : 1);
     memcpy(bytes, given, size);

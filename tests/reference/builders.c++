@@ -1,5 +1,5 @@
-// Writes bytes of builders of the reference implementation that are not canonical: `twice` after a text was set a
-// second time, `upgraded` after a list of numbers was requested as a list of structs, `empty` after a null root was
+// Writes bytes that builders of the reference implementation leave and that aren't canonical. For `twice`, a text was
+// set a second time. For `upgraded`, a list of numbers was requested as a list of structs. For `empty`, a null root was
 // requested.
 
 #include <capnp/message.h>

@@ -1,8 +1,9 @@
-// Writes what the reference implementation's library returns for the message on standard input, whatever its root is.
-// The implementation's command line tool takes only structs. The words are: `canonical` (for the first message of a
-// stream), `canonical-packed` (for a packed one), `is-canonical` (for the words of one segment) or `pack` (the packed
-// bytes of one message); then the traversal limit in words and the nesting limit, if they are not the library's
-// defaults. If the library rejects the message, it prints the reason and ends with 1.
+// Writes what the reference implementation's library returns for the message on standard input. The message may have
+// any root. (The implementation's command line tool takes only structs as roots.) The first word is one of these:
+// `canonical` for the first message of a stream, `canonical-packed` for a packed message, `is-canonical` for the words
+// of one segment, or `pack`, which writes the packed bytes of one message. The traversal limit in words and the nesting
+// limit may follow. Without them, the library's defaults hold. If the library rejects the message, the program prints
+// the reason and ends with status 1.
 #include <capnp/any.h>
 #include <capnp/message.h>
 #include <capnp/serialize-packed.h>
@@ -30,7 +31,7 @@ static void canonicalOfPacked(capnp::ReaderOptions options) {
   canonical(in);
 }
 
-// The segments as they are in the input, whose table is valid, packed as the library packs a message.
+// Packs the segments as the library packs a message. They are as in the input, and its segment table has to be valid.
 static void pack() {
   auto bytes = kj::FdInputStream(STDIN_FILENO).readAllBytes();
   auto words = kj::heapArray<capnp::word>(bytes.size() / sizeof(capnp::word));

@@ -1,8 +1,8 @@
-// Writes pairs of messages by builders of the reference implementation: `pairs SEED COUNT` writes them as a stream,
-// which is the same in every run. The messages of an even pair have one value, in two layouts. Those of an odd pair
-// have values that differ in one place. A layout has the sizes of structs and of structs in lists, as an older or a
-// newer schema has them; the order of objects; the sizes of segments, and so far pointers; and gaps where an object was
-// moved or dropped.
+// Writes pairs of messages with builders of the reference implementation. `pairs SEED COUNT` writes them as a stream,
+// which is the same in every run. The messages of an even pair have one value in two layouts. The messages of an odd
+// pair have values that differ in one place. Layouts differ in the sizes of structs and of structs in lists, as they do
+// between an older and a newer schema. They also differ in the order of objects, in the sizes of segments and so in the
+// far pointers, and in the gaps where an object was moved or dropped.
 #include <capnp/any.h>
 #include <capnp/message.h>
 #include <capnp/orphan.h>
@@ -15,8 +15,8 @@
 
 enum Kind { NOTHING, STRUCT, VOIDS, BITS, BYTES, TWOS, FOURS, EIGHTS, POINTERS, ROWS };
 
-// The object that a pointer refers to. A struct has its data words as numbers, and its pointers as parts. A list of
-// numbers has numbers. The other lists have parts, and the parts of a list of structs are structs.
+// The object that a pointer refers to. A struct has numbers, which are its data words, and parts, which are its
+// pointers. A list of numbers has numbers. The other lists have parts. The parts of a list of structs are structs.
 struct Value {
   Kind kind = NOTHING;
   std::vector<uint64_t> numbers;
@@ -27,7 +27,7 @@ static std::mt19937_64 source;
 
 static unsigned below(unsigned most) { return unsigned(source() % most); }
 
-// A number, cut to the width that a list of this kind has.
+// Returns a number, cut to the width that a list of this kind has.
 static uint64_t cut(Kind kind, uint64_t number) {
   switch (kind) {
     case VOIDS: return 0;
@@ -39,7 +39,7 @@ static uint64_t cut(Kind kind, uint64_t number) {
   }
 }
 
-// A value of this kind. More than half of its words are zeros, and more than half of its pointers null.
+// Returns a value of this kind. More than half of its words are zero, and more than half of its pointers are null.
 static Value valueOf(Kind kind, unsigned depth) {
   Value made;
   made.kind = kind;
@@ -55,13 +55,13 @@ static Value valueOf(Kind kind, unsigned depth) {
   return made;
 }
 
-// All values within a value, including itself, and whether each is a struct in a list.
+// Collects all values within a value, including the value itself, and whether each is a struct in a list.
 static void collect(Value& value, bool isRow, std::vector<std::pair<Value*, bool>>& all) {
   all.push_back({&value, isRow});
   for (auto& part : value.parts) collect(part, value.kind == ROWS, all);
 }
 
-// A value that differs from this one in one place.
+// Changes a value in one place.
 static void change(Value& value, bool isRow) {
   Value more;
   if (value.kind == NOTHING) {
@@ -94,7 +94,7 @@ static void change(Value& value, bool isRow) {
 // Builds values in a message, each time in another layout.
 class Layout {
 public:
-  // How many sizes and gaps differ from those that the values need. 0 stands for none.
+  // How many sizes and gaps differ from those that the values need. With 0, none differs.
   explicit Layout(unsigned spare) : spare(spare) {}
 
   void put(const Value& value, capnp::AnyPointer::Builder to) {
@@ -116,7 +116,7 @@ public:
       case ROWS: putRows(value, to); break;
     }
     if (spare > 0 && below(6) == 0) {
-      // The object is taken out, and put back after another one was made behind it.
+      // Takes the object out, makes another object behind it, and puts it back.
       auto moved = to.disown();
       waste(to);
       to.adopt(kj::mv(moved));
@@ -128,7 +128,7 @@ private:
 
   unsigned more() { return spare == 0 ? 0 : below(spare + 1); }
 
-  // An object that is dropped, whose words stay in the message.
+  // Drops an object. Its words stay in the message.
   void waste(capnp::AnyPointer::Builder to) {
     if (below(2)) to.initAs<capnp::Data>(1 + below(20));
     else to.initAsAnyStruct(1 + below(3), below(3));

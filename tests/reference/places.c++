@@ -1,6 +1,6 @@
-// Writes what the reference implementation finds in each message of a stream, pointer by pointer in preorder, with the
-// offset of each object from the beginning of the message's segment table. A message that it rejects is one line. It
-// reads standard input.
+// Writes what the reference implementation finds in each message of a stream. It writes a line for each pointer, in
+// preorder, with the offset of the object from the beginning of the message's segment table. For a message that it
+// rejects, it writes only one line. It reads standard input.
 
 #include <capnp/any.h>
 #include <capnp/serialize.h>
@@ -102,7 +102,7 @@ void message(const std::vector<unsigned char>& bytes) {
 
 }  // namespace
 
-// Each message comes after its length in bytes, as four bytes, the least significant first.
+// Each message comes after its length in bytes. The length is a number of four bytes, the least significant byte first.
 int main() {
   unsigned char head[4];
   while (fread(head, 1, 4, stdin) == 4) {

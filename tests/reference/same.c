@@ -1,6 +1,6 @@
-/* Compares pairs of messages by the library. Two messages that follow each other on standard input are a pair. For each
- * pair it prints a line. The line is `same` or `different` if all of these agree: the canonical bytes of both, and
- * capn_same of both in each form and in each order. Otherwise the line says which of them is wrong. */
+/* Compares pairs of messages by the library. Two consecutive messages on standard input are a pair. For each pair the
+ * program prints a line. It compares the canonical bytes of both, and calls capn_same on both, in each form and in each
+ * order. If all results agree, the line is `same` or `different`. Otherwise it says which result is wrong. */
 #include "capn.h"
 
 #include <stdint.h>
@@ -56,7 +56,7 @@ static struct text packed(struct text message) {
     return made;
 }
 
-/* Prints an error if capn_same returns another result than it has to. */
+/* Prints an error if capn_same returns a wrong result. */
 static int is_wrong(const char *what, uint32_t form, struct text a, struct text b, capn_status wanted) {
     static const capn_report nothing;
     capn_report report;

@@ -1,6 +1,6 @@
-// Reads the message on standard input by the reference implementation's library, with a schema from before a list was
+// Reads the message on standard input with the reference implementation's library, with a schema from before a list was
 // upgraded to structs. It prints the first pointer of the root as a `List(UInt16)`, with its numbers on one line. If
-// the library rejects the message, it prints the reason and ends with 1.
+// the library rejects the message, the program prints the reason and ends with status 1.
 #include <capnp/any.h>
 #include <capnp/serialize.h>
 #include <stdio.h>

@@ -1,10 +1,10 @@
-//! Reads the message by the crate `capnp`, as `upgraded.c++` does by the library in C++.
+//! Reads the message with the crate `capnp`, as `upgraded.c++` does with the library in C++.
 use capnp::message::ReaderOptions;
 use capnp::private::layout::{PointerReader, StructReader};
 use capnp::traits::FromPointerReader;
 use capnp::{primitive_list, serialize, Result, Word};
 
-/// A struct of any type, for which there is no generated code.
+/// A struct of any type. There is no generated code for it.
 struct Root<'a>(StructReader<'a>);
 
 impl<'a> FromPointerReader<'a> for Root<'a> {

@@ -1,6 +1,6 @@
 //! The calls of the module that `capnp compile -orust` makes from the page's schema, written by hand.
 //!
-//! Debian has the crate `capnp`, and not its generator. Like the generated module, this one is over
+//! Debian has the crate `capnp`, but not its generator. Like a generated module, this module uses
 //! `capnp::private::layout`, with the offsets that `capnp compile -ocapnp` prints.
 #![allow(dead_code)]
 use capnp::private::layout::{
@@ -12,7 +12,7 @@ use capnp::traits::{
 };
 use capnp::{struct_list, text, Result, Word};
 
-/// A struct type: its module, its number of data words and of pointers.
+/// A struct type: its module, its number of data words, and its number of pointers.
 macro_rules! struct_type {
     ($name:ident, $data:literal, $pointers:literal, {$($reads:tt)*}, {$($writes:tt)*}) => {
         pub mod $name {

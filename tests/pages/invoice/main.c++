@@ -1,4 +1,4 @@
-// Prints what a reader in C++ needs in order to read an invoice.
+// Prints which limits a reader in C++ needs in order to read an invoice.
 //
 //     beside least MESSAGE   the least limits with which each field is read once: words, levels
 //     beside long MESSAGE    which readers take a message of more words than the traversal limit
@@ -28,13 +28,13 @@ static bool is_read(kj::ArrayPtr<const capnp::word> message, std::uint64_t words
 } catch (const kj::Exception &) {
     return false;
 }
-/* Returns the least number below `most` for which `holds` is true, else `most`. */
+/* Returns the least number below `most` for which `holds` is true. If none exists, returns `most`. */
 template <class Holds> static int least(int most, Holds holds) {
     int n = 0;
     while (n < most && !holds(n)) n++;
     return n;
 }
-/* Whether a reader whose traversal limit is 8 words takes a message. */
+/* Returns whether a reader with a traversal limit of 8 words accepts a message. */
 static bool takes(kj::ArrayPtr<const capnp::word> message, bool is_flat) try {
     const capnp::ReaderOptions options{8, 64};
     if (is_flat) {

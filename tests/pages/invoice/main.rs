@@ -1,4 +1,4 @@
-//! Prints what a reader of the crate `capnp` needs in order to read an invoice, as `main.c++` does.
+//! Prints which limits a reader of the crate `capnp` needs in order to read an invoice, as `main.c++` does.
 mod invoice_capnp;
 
 use capnp::message::ReaderOptions;
