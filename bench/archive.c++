@@ -1,5 +1,5 @@
-// An archive, written by the reference implementation: `archive COUNT` writes COUNT messages, a third each of persons,
-// series of numbers and trees. The same count gives the same bytes.
+// Writes an archive with the reference implementation. `archive COUNT` writes COUNT messages: a third are persons, a
+// third are series of numbers, and a third are trees. The same count gives the same bytes.
 #include "archive.capnp.h"
 #include <capnp/message.h>
 #include <capnp/serialize.h>
@@ -12,7 +12,7 @@
 
 static uint64_t state = 20260101;
 
-// The next pseudo-random number below a bound.
+// Returns the next pseudo-random number below a bound.
 static uint64_t below(uint64_t bound) {
   state = state * 6364136223846793005 + 1442695040888963407;
   return (state >> 33) % bound;

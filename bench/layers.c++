@@ -1,5 +1,6 @@
-// layers MILLISECONDS < MESSAGE: times calls of capn.hpp on a message, each for as long, in batches of 0.2 milliseconds
-// or more. Writes a line for each: its name and the nanoseconds of a call in the shortest batch. bench/layers runs it.
+// layers MILLISECONDS < MESSAGE: times calls of capn.hpp on a message. Each call is timed for this long, in batches of
+// 0.2 milliseconds or more. The program prints a line for each call: its name, and the nanoseconds of a call in the
+// shortest batch. bench/layers runs it.
 #include "capn.hpp"
 #include <chrono>
 #include <cstdio>

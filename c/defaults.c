@@ -1,6 +1,7 @@
-/* The calls of the header. Each replaces a null `limits`, `report` or `which`, and makes the proved call of the same
- * name. `make linked` renames the proved calls to proved_capn_*, and hides them. This code is not proved. It keeps no
- * state, and reads and writes nothing but its arguments. If nothing is null, it is two comparisons and a jump. */
+/* The calls of the header. Each call replaces a null `limits`, `report` or `which`, and makes the proved call of the
+ * same name. `make linked` renames the proved calls to proved_capn_*, and hides them. This code is not proved. It keeps
+ * no state, and reads and writes nothing but its arguments. If no argument is null, it does two comparisons and a jump.
+ */
 #include "capn.h"
 
 static const capn_limits usual = CAPN_USUAL_LIMITS;
@@ -11,7 +12,7 @@ static const capn_limits usual = CAPN_USUAL_LIMITS;
 #define HIDDEN __attribute__((visibility("hidden")))
 #define SELDOM __attribute__((cold, noinline))
 
-/* A call with limits and a report: its name, its parameters, and the names of these. */
+/* Defines a call with limits and a report, from its name, its parameters, and the names of its parameters. */
 #define WITH_LIMITS(name, parameters, passed) \
     HIDDEN capn_status proved_##name parameters; \
     static SELDOM capn_status name##_by_default parameters { \
@@ -25,7 +26,7 @@ static const capn_limits usual = CAPN_USUAL_LIMITS;
         return proved_##name passed; \
     }
 
-/* A call with a report and no limits. */
+/* Defines a call with a report and without limits. */
 #define WITH_REPORT(name, parameters, passed) \
     HIDDEN capn_status proved_##name parameters; \
     static SELDOM capn_status name##_by_default parameters { \
@@ -89,7 +90,7 @@ WITH_LIMITS(capn_departure,
              uint32_t *way, size_t most_numbers, capn_report *report),
             (form, bytes, size, limits, departed, way, most_numbers, report))
 
-/* The same for two messages. `which` may be null too. */
+/* Does the same for the call on two messages. `which` may be null, too. */
 HIDDEN capn_status proved_capn_same(uint32_t form, const uint8_t *a, size_t size_a, const uint8_t *b, size_t size_b,
                                     const capn_limits *limits, uint32_t *which, capn_report *report);
 static SELDOM capn_status capn_same_by_default(uint32_t form, const uint8_t *a, size_t size_a, const uint8_t *b,

@@ -86,7 +86,7 @@ const char *capn_status_name(capn_status status) {
     }
 }
 
-/* A buffer that gets as much of a text as fits, and the full length of the text. */
+/* A buffer that receives as much of a text as fits, and the length of the whole text. */
 struct text {
     char *out;
     size_t room, length;

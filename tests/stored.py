@@ -1,10 +1,10 @@
-"""The stored cases of `conformance_calls` and `conformance_runs`, a file for each call.
+"""The stored cases of `conformance_calls` and `conformance_runs`. Each call has a file.
 
-The file `crates/CRATE/cases/CALL` has the cases of a call: three lines each, which are the name in words, the call and
-the answer, with a blank line between two cases. CALL is the first word of the call, or the second after `plain`. The
-cases of a file are in the order of their keys, so that a new case is a change of four lines at one place. The key of a
-case is its name with `_` for each space, and without `:`, `,`, `'` and brackets. In a stored input a case is its first
-two lines, in the output the first and the last.
+The file `crates/CRATE/cases/CALL` has the cases of a call. A case has three lines: its name in words, the call, and the
+answer. A blank line stands between two cases. CALL is the first word of the call, or the second after `plain`. The
+cases of a file are in the order of their keys, so a new case changes four lines in one place. The key of a case is its
+name with `_` for each space, and without `:`, `,`, `'` and brackets. A stored input has the first two lines of a case.
+A stored output has the first and the last line.
 """
 
 import collections
@@ -24,7 +24,7 @@ def word_of(call):
 
 
 def key_of(name):
-    """Returns the name as one word, by which the cases of a file are ordered."""
+    """Returns the key of a case: its name as one word. The cases of a file are in the order of their keys."""
     return name.translate(WITHOUT)
 
 
@@ -66,7 +66,7 @@ def all_cases():
 
 
 def asked(cases, before=""):
-    """Returns the input of these cases, with a word before each call."""
+    """Returns the input of these cases. A word stands before each call."""
     return "".join(f"{case.name}\n{before}{case.call}\n" for case in cases)
 
 

@@ -1,4 +1,5 @@
-"""Runs tests and stored runs without a proof, by `rt try`, several crates at once, for tests/of and tests/quick."""
+"""Runs tests and stored runs without a proof, with `rt try`, several crates at once. tests/of and tests/quick use
+it."""
 
 import collections
 import concurrent.futures
@@ -16,17 +17,17 @@ sys.path.insert(0, os.path.join(TOP, ".ci"))
 import proving
 
 LOG = "build/tries.log"
-# The most GiB that one run of `rt try` takes: its compiler, and beside it the check of names.
+# How many GiB one run of `rt try` uses at most, for its compiler and the check of names that runs beside it.
 MEMORY = 2
-# The number of cases in one run of the program. It is small, so that the cases after one that ends the program are
-# tried.
+# The number of cases in one run of the program. If a case ends the program, the remaining cases of its run aren't
+# tried, so the number is small.
 AT_ONCE = 40
-# The seconds that such a run may take, also on a busy machine.
+# How many seconds such a run may take, even on a busy machine.
 SECONDS = 1200
-# The most lines that are printed of the errors of a crate: ten cases.
+# How many lines of a crate's errors are printed at most: ten cases.
 MOST_LINES = 40
 
-# A job of a crate: a word for it, and a function that returns the errors, if there are any, and what was printed.
+# A job of a crate. It has a word for the job, and a function that returns the errors and the output.
 Job = collections.namedtuple("Job", "crate what run")
 
 
@@ -45,8 +46,8 @@ def tests_of(crate):
 
 
 def crates_of_calls(crate):
-    """Yields the libraries on which the answer to each call depends, for one of the crates with cases: those that the
-    module of the call names, and those of the modules that this one uses."""
+    """Yields each call of a crate with cases, and the libraries that its answer depends on. These are the libraries
+    that the call's module names, and those that the modules below it name."""
     folder = os.path.join(TOP, "crates", crate, "src")
     modules = {name[:-3]: text_of("crates", crate, "src", name) for name in os.listdir(folder)}
 
@@ -82,7 +83,7 @@ def tests_job(crate):
 
 
 def bytes_beside(crate, name):
-    """Returns the bytes of a file beside the src/ of a program, or no bytes if there is no file."""
+    """Returns the bytes of a file beside the src/ of a program. If the file doesn't exist, returns no bytes."""
     path = os.path.join(TOP, "crates", crate, name)
     if not os.path.exists(path):
         return b""
@@ -91,7 +92,7 @@ def bytes_beside(crate, name):
 
 
 def stored_job(crate):
-    """Tries the stored run of a program, which lies beside its src/."""
+    """Tries the stored run of a program. Its input and output lie beside the program's src/."""
 
     def run():
         args, given, wanted = (bytes_beside(crate, name) for name in ("args", "stdin", "stdout"))
@@ -104,7 +105,7 @@ def stored_job(crate):
 
 
 def shown(text, at=0):
-    """Returns a text, or the part around a place if it is long."""
+    """Returns a text. If the text is long, returns the part around a place."""
     begin = max(0, at - 100)
     end = begin + 400
     return f"{'..' * (begin > 0)}{text[begin:end]}{'..' * (end < len(text))}"
@@ -127,17 +128,17 @@ def differences(cases, out):
 
 
 def cases_job(crate, cases):
-    """Tries some cases of a crate, and compares each with its stored answer."""
+    """Tries some cases of a crate, and compares each answer with the stored answer."""
 
     def run():
         parts = [cases[at:at + AT_ONCE] for at in range(0, len(cases), AT_ONCE)]
         with tempfile.TemporaryDirectory() as folder:
             for number, part in enumerate(parts):
                 with open(os.path.join(folder, f"{number:04}"), "w", encoding="utf-8") as file:
-                    # For each call, only some allocations fail here. In the gate, which runs the compiled code, each of
+                    # Only some allocations of each call fail here. In the gate, which runs the compiled code, each of
                     # them fails in turn.
                     file.write(stored.asked(part, "few "))
-            # The interpreter can't run code that takes memory from the system.
+            # The interpreter can't run code that allocates memory from the system.
             status, out, said = try_crate(crate, ["--steps", "1", "--seconds", str(SECONDS), "--cases", folder])
         outs = dict(zip(*[iter(re.split(r"^== (\d{4})\n", out.decode(errors="replace"), flags=re.M)[1:])] * 2))
         late = {int(it) for it in re.findall(r"^case=(\d{4}) run=no-answer", said, re.M)}
@@ -163,8 +164,8 @@ def workers():
 
 
 def run_all(jobs):
-    """Runs the jobs in their order. Prints a line for each that is done, and the errors at the end. The rest goes into
-    a log. Returns the exit status."""
+    """Runs the jobs in their order. Prints a line for each job that is done, and the errors at the end. The rest goes
+    into a log. Returns the exit status."""
     begun, faults = time.time(), []
     os.makedirs(os.path.join(TOP, "build"), exist_ok=True)
     with open(os.path.join(TOP, LOG), "w", encoding="utf-8") as log, \
@@ -189,8 +190,8 @@ def run_all(jobs):
 
 
 def nearest(crate, names, tried):
-    """Returns those of these crates that reach a crate by the fewest steps. A crate that names it reaches it in one
-    step."""
+    """Returns the crates, of those in `tried`, that reach a crate in the fewest steps. A crate that names the crate
+    reaches it in one step."""
     above = {crate}
     while above:
         found = [it for it in tried if it in above and it != crate]
@@ -201,8 +202,8 @@ def nearest(crate, names, tried):
 
 
 def calls_reaching(crate, names):
-    """Returns the calls of cases that reach a crate, and the program that answers them. Takes the first program with
-    such calls: those whose answer names the crate, or, if there are none, those that reach it."""
+    """Returns the first program with cases that reach a crate, and the calls of these cases. These are the calls whose
+    answers name the crate. If there are none, they are the calls whose answers reach it."""
     for one in stored.CRATES:
         found = dict(crates_of_calls(one))
         if crate == one or crate in names[one] and crate not in set().union(*found.values()):

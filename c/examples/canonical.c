@@ -35,7 +35,7 @@ int main(int count, char **words) {
         return 3;
     }
 
-    /* With a buffer of size 0 the call checks the message, and reports a length that is enough. */
+    /* With a buffer of size 0, the call checks the message and reports a length that is enough. */
     capn_limits limits = CAPN_USUAL_LIMITS;
     capn_report report;
     capn_status status = capn_canonical(CAPN_STREAM, bytes, size, &limits, NULL, 0, &report);

@@ -1,5 +1,5 @@
-/* index FILE: prints the tree of an untrusted message without a schema, a line for each pointer, by its index.
- * It exits with 1 if the message is invalid, 2 on wrong usage, and 3 if the file cannot be read. */
+/* index FILE: prints the tree of an untrusted message without a schema, from the message's index. Each pointer has a
+ * line. It exits with 1 if the message is invalid, 2 on wrong usage, and 3 if the file cannot be read. */
 #include "capn.h"
 #include "capn_fields.h"
 #include <inttypes.h>
@@ -9,7 +9,7 @@
 static const char *const kinds[] = {"null", "struct", "void", "bits", "bytes", "u16", "u32", "u64", "pointers", "rows",
                                     "capability"};
 
-/* Prints entry i and all below it. Their places are known, and `span` says where the next sibling is. */
+/* Prints entry i and all entries below it. Their places are known, and `span` says where the next sibling is. */
 static void print_entry(const capn_entry *all, size_t i, int level, const uint8_t *bytes) {
     const capn_entry *e = &all[i];
     printf("%*s%s", 2 * level, "", kinds[e->kind]);
@@ -21,8 +21,8 @@ static void print_entry(const capn_entry *all, size_t i, int level, const uint8_
 }
 
 int main(int count, char **words) {
-    /* A copy, which nobody changes while it is read. It has room for one byte more than a message may have here: a
-     * longer message is rejected. */
+    /* A copy of the message, which nobody changes while it is read. The buffer has room for one byte more than a
+     * message may have here. So a longer message is detected and rejected. */
     static uint8_t bytes[(1 << 20) + 1];
     capn_limits limits = CAPN_USUAL_LIMITS;
     limits.message_words = 1 << 17;

@@ -1,5 +1,5 @@
 /* stream: prints the digest of each message of a stream on standard input, in hexadecimal. The stream may have any
- * length. The program reads no byte after the message that it works on: `capn_first` says how many bytes that needs.
+ * length. `capn_first` says how many bytes the current message needs, so the program reads no byte after this message.
  * It goes on after an invalid message, and prints its number, its offset and the error to standard error. It exits with
  * 1 if a message is invalid or the stream is truncated, and 2 if reading fails. */
 #include "capn.h"
@@ -25,7 +25,8 @@ int main(void) {
     for (;;) {
         status = capn_first(bytes, have, &limits, &report);
         if (status == CAPN_FRAME_EMPTY || status == CAPN_FRAME_CUT) {
-            /* The buffer grows as bytes arrive, and not at once to the length that a segment table announces. */
+            /* The buffer grows as bytes arrive. It doesn't grow at once to the length that a segment table announces.
+             */
             const size_t need = report.length;
             if (have == room) {
                 room = room ? 2 * room : 4096;
@@ -59,7 +60,7 @@ int main(void) {
         have = 0;
     }
     free(bytes);
-    /* At the end of the stream there is no message, or a truncated one. */
+    /* At the end of the stream, no bytes are left, or the last message is truncated. */
     if (status != CAPN_FRAME_EMPTY) {
         print_error(number, offset, status, &report);
         is_valid = 0;

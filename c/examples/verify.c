@@ -1,6 +1,6 @@
-/* verify FILE DIGEST: exits with 0 if a file is exactly one message whose canonical bytes have this SHA-256, with 1 if
- * it is not, with 2 on wrong usage, and with 3 if the file cannot be read. It verifies no signature: first verify that
- * of a statement with the protocol, the type and the digest. */
+/* verify FILE DIGEST: exits with 0 if a file is exactly one message, and its canonical bytes have this SHA-256. It
+ * exits with 1 if not, with 2 on wrong usage, and with 3 if the file cannot be read. It verifies no signature. First
+ * verify the signature of a statement that has the protocol, the type and the digest. */
 #include "capn.h"
 #include <stdio.h>
 #include <string.h>
@@ -16,7 +16,7 @@ int main(int count, char **words) {
     if (!is_read) return 3;
     if (size == sizeof bytes) return 1;
 
-    /* The limits of the protocol: an untrusted message costs no more than this. */
+    /* The limits of the protocol. They bound what an untrusted message can cost. */
     capn_limits limits = CAPN_USUAL_LIMITS;
     limits.message_words = 1 << 17;
     limits.budget = 1 << 18;

@@ -1,11 +1,11 @@
 #!/usr/bin/env python3
 """Runs a command of `capn` over an archive on several processors: parallel.py ARCHIVE COMMAND [OPTION..]
 
-COMMAND is `hash`, `check`, `list` or `canonical --framed`. The archive is split between its messages, at offsets that
-`capn list` writes. Each part is read by a process of its own. The results are put together in order, with the numbers
-and offsets of the whole archive. Output, standard error and status are those of one process that reads the archive,
-except that `hash` and `check` take more than 2^32 bytes. One process runs what can't be split: other commands, a packed
-stream, a bare message, a mistake on the command line, `--help`.
+COMMAND is `hash`, `check`, `list` or `canonical --framed`. The archive is split between messages, at offsets that `capn
+list` writes. A process of its own reads each part. The results are put together in order, with the numbers and offsets
+of the whole archive. Output, standard error and status are the same as with one process that reads the archive. There
+is one exception: `hash` and `check` take more than 2^32 bytes here. What can't be split runs in one process: other
+commands, a packed stream, a bare message, a mistake on the command line, and `--help`.
 """
 
 from __future__ import annotations
@@ -32,8 +32,9 @@ PASSED_OVER = re.compile(rb"capn: (\d+) of (\d+) messages refused, the first is 
 
 
 class Part(NamedTuple):
-    """A part of an archive, of complete messages: how many messages are before it, where it begins, how many it has,
-    and where it ends. The last part has no end: it is the rest of the archive, whatever that contains."""
+    """A part of an archive, which consists of complete messages. It says how many messages are before it, where it
+    begins, how many messages it has, and where it ends. The last part has no end. It is the rest of the archive,
+    whatever that contains."""
 
     before: int
     begin: int
@@ -41,7 +42,8 @@ class Part(NamedTuple):
     end: int | None
 
     def moved(self, found: re.Match[bytes]) -> bytes:
-        """Returns the number and offset in the archive of a message, from those in this part."""
+        """Returns the number and the offset that a message has in the archive, from its number and offset in this
+        part."""
         return b"%d at %d" % (int(found[1]) + self.before, int(found[2]) + self.begin)
 
 
@@ -55,7 +57,7 @@ class Answer(NamedTuple):
 
 
 def parts_of(path: str, limits: list[str], most: int) -> Iterator[Part]:
-    """Yields the parts of an archive, each of at least this many bytes, as soon as they are known."""
+    """Yields the parts of an archive as soon as they are known. Each has at least this many bytes."""
     before = begin = last = 0
     command = [CAPN, "list", "--keep-going", *limits]
     with open(path, "rb") as archive, subprocess.Popen(
@@ -79,7 +81,8 @@ def parts_of(path: str, limits: list[str], most: int) -> Iterator[Part]:
 
 
 def answer(path: str, part: Part, command: list[str]) -> Answer:
-    """Returns the output of a process for a part, with the numbers and offsets of the archive in each line."""
+    """Runs the command on a part. Returns its output, with the numbers and offsets of the whole archive in each
+    line."""
     with open(path, "rb") as archive:
         archive.seek(part.begin)
         given = {"stdin": archive} if part.end is None else {"input": archive.read(part.end - part.begin)}
@@ -89,8 +92,8 @@ def answer(path: str, part: Part, command: list[str]) -> Answer:
 
 
 def answers(path: str, parts: Iterator[Part], command: list[str], processes: int) -> Iterator[Answer]:
-    """Yields the outputs of the processes for the parts, in order. Some more parts than there are processes are started
-    at a time."""
+    """Yields the outputs of the processes for the parts, in order. A few more parts are started than there are
+    processes."""
     waiting: deque[Future[Answer]] = deque()
     with ProcessPoolExecutor(processes) as pool:
         try:
@@ -125,7 +128,7 @@ def put_together(found: Iterator[Answer]) -> tuple[bytes, int]:
 
 
 def limits_of(options: list[str]) -> list[str]:
-    """Returns the limits among these options, which apply when the archive is split, too."""
+    """Returns the limits among these options. They also apply when the archive is split."""
     found: list[str] = []
     for at, option in enumerate(options):
         if option in LIMITS:
@@ -136,8 +139,8 @@ def limits_of(options: list[str]) -> list[str]:
 
 
 def is_for_parts(command: list[str]) -> bool:
-    """Returns whether an archive may be split for this command. The command has to accept an empty input, and write
-    nothing for it."""
+    """Returns whether an archive may be split for this command. For an empty input, the command has to succeed and
+    write nothing."""
     if command[0] not in COMMANDS or OTHER_FORMS & set(command):
         return False
     ran = subprocess.run([CAPN, *command], stdin=subprocess.DEVNULL, capture_output=True, check=False)

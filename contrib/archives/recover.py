@@ -24,21 +24,21 @@ from itertools import islice
 from typing import NamedTuple
 
 # The counting rule `plain` counts only words. A message that uses all of its words costs one word less than it has,
-# which is the pointer of its root.
+# because its root pointer isn't counted.
 LIST = [os.environ.get("CAPN", "capn"), "list", "--keep-going", "--tariff", "plain"]
 LIMITS = [LIST[0], "limits"]
 LINE = re.compile(rb"\d+ at (\d+) bytes (\d+) segments \d+ words (\d+) (?:paid (\d+) |refused (.*))")
 FAULT = re.compile(rb"capn: message \d+ at (\d+): (.*)")
-# A table of at most 4,096 segments, whose first segment isn't empty, may begin at any byte, since some bytes may be
-# lost.
+# Finds where a segment table may begin. The table has at most 4,096 segments, and its first segment isn't empty. It may
+# begin at any byte, since some bytes may be lost.
 TABLE = re.compile(rb"(?=.[\0-\x0f]\0\0(?!\0{4}))", re.DOTALL)
 # One process checks at most this many rows of messages, or about this many bytes.
 MOST_ROWS, MOST_BYTES = 1 << 12, 1 << 24
 
 
 class Message(NamedTuple):
-    """A message with its bytes, and with its cost or the error for which it is rejected. A message whose segment table
-    is invalid has no end."""
+    """A message: its bytes, its words, and its cost or the error for which it is rejected. A message with an invalid
+    segment table has no end."""
 
     begin: int
     end: int
@@ -52,7 +52,8 @@ class Message(NamedTuple):
 
 
 class Span(NamedTuple):
-    """Bytes of an archive: complete messages that are kept, or bytes that are skipped, with the error."""
+    """A range of bytes of an archive. It has complete messages that are kept, or bytes that are skipped, with the
+    error."""
 
     begin: int
     end: int
@@ -61,7 +62,7 @@ class Span(NamedTuple):
 
 
 def message_of(line: bytes, offset: int) -> Message:
-    """Returns the message of a line of `capn list` that began to read at this offset."""
+    """Returns the message that a line of `capn list` describes. The listing began at this offset."""
     found = LINE.match(line)
     if not found:
         raise RuntimeError(f"not a line of capn list: {line!r}")
@@ -71,8 +72,8 @@ def message_of(line: bytes, offset: int) -> Message:
 
 
 def listed(path: str, offset: int) -> Iterator[Message]:
-    """Yields the messages of a file from an offset on, and at last the error of the segment table that ended the
-    list."""
+    """Yields the messages of a file from an offset on. If an invalid segment table ends the list, yields its error
+    last."""
     with open(path, "rb", buffering=0) as archive, tempfile.TemporaryFile() as errors:
         archive.seek(offset)
         with subprocess.Popen(LIST, stdin=archive, stdout=subprocess.PIPE, stderr=errors) as listing:
@@ -109,8 +110,8 @@ class Sample:
             self.has_null = self.has_null or cost == 0
 
     def takes(self, message: Message) -> bool:
-        """Returns whether a message is accepted. A null message counts only if the sample has one, since two words of
-        garbage can be null."""
+        """Returns whether a message is accepted. Two words of garbage can be null, so a null message counts only if the
+        sample has one."""
         return message.cost is not None and (message.cost > 0 or self.has_null)
 
     def is_like(self, message: Message) -> bool:
@@ -128,7 +129,7 @@ class Archive:
             self.data = mmap.mmap(file.fileno(), 0, access=mmap.ACCESS_READ) if self.size else b""
 
     def spans(self) -> Iterator[Span]:
-        """Yields the bytes of the archive in order, as bytes that are kept or skipped."""
+        """Yields the bytes of the archive in order, as ranges that are kept or skipped."""
         at = 0
         while at < self.size:
             begin, messages, bad = at, 0, None
@@ -145,8 +146,8 @@ class Archive:
                 yield from self.between(bad, at)
 
     def next_good(self, bad: Message) -> int:
-        """Returns the first byte after the beginning of a bad message at which a row of good messages begins, or the
-        end of the archive."""
+        """Returns the byte at which a row of good messages begins. It is the first such byte after the beginning of a
+        bad message, or the end of the archive."""
         rows: list[tuple[int, list[int]]] = []
         most, size = 1, 0
         if self.nested and bad.end > bad.begin and self.first_good([(bad.end, self.ends(bad.end))]):
@@ -162,7 +163,7 @@ class Archive:
         return self.first_good(rows) or self.size
 
     def ends(self, at: int) -> list[int]:
-        """Returns the ends of the messages in a row that begins here, by their segment tables. There are fewer than
+        """Returns the ends of the messages in a row that begins here, by their segment tables. The row is shorter than
         wanted only if the archive ends."""
         ends: list[int] = []
         while len(ends) < self.row and at < self.size:
@@ -175,8 +176,8 @@ class Archive:
         return ends
 
     def end(self, at: int) -> int:
-        """Returns the end of the message that begins here, by its segment table, or 0 if it has more words than the
-        sample allows."""
+        """Returns the end of the message that begins here, by its segment table. Returns 0 if the message has more
+        words than the sample allows."""
         if at + 8 > self.size:
             return self.size + 1
         last, first = struct.unpack_from("<II", self.data, at)
@@ -189,8 +190,7 @@ class Archive:
         return at + table + 8 * words if words <= self.sample.words else 0
 
     def first_good(self, rows: list[tuple[int, list[int]]]) -> int:
-        """Returns the beginning of the first of these rows whose messages are all good, or 0. One process checks them
-        all."""
+        """Returns where the first row begins whose messages are all good, or 0. One process checks all rows."""
         frames = b"".join(self.data[begin:ends[-1]] for begin, ends in rows if ends)
         lines = subprocess.run(LIST, input=frames, capture_output=True, check=False).stdout.splitlines()
         messages = (message_of(line, 0) for line in lines)
@@ -201,9 +201,9 @@ class Archive:
         return 0
 
     def between(self, bad: Message, good: int) -> Iterator[Span]:
-        """Yields the bytes from a bad message to a good one. If the messages between, by their segment tables, lead to
-        the good one, each was where it should be. The accepted ones among them are then kept, also those that are
-        suspect."""
+        """Yields the bytes from a bad message to a good one. If the segment tables of the messages between lead to the
+        good message, each of these messages is where it should be. The accepted messages among them are then kept, even
+        if they are suspect."""
         end = bad.begin
         with closing(listed(self.path, bad.begin)) as found:
             for message in found:

@@ -1,8 +1,8 @@
-"""Tests the scripts of this folder on small archives, in the current folder, with the program that CAPN names.
+"""Tests the scripts of this folder on small archives in the current folder, with the program that CAPN names.
 
-recover.py has to keep each message of a damaged archive whose bytes are complete, and no other bytes. parallel.py has
-to write what one process writes. search.sh has to find the messages with a text, and no others. differences.sh has to
-print the messages that differ.
+From a damaged archive, recover.py has to keep each message whose bytes are complete, and no other bytes. parallel.py
+has to write what one process writes. search.sh has to find the messages with a text, and no other messages.
+differences.sh has to print the messages that differ.
 """
 
 from __future__ import annotations
@@ -21,8 +21,8 @@ from messages import canonical, framed, in_two_segments, with_zeros
 
 CAPN = os.environ["CAPN"]
 MEGABYTE = 1 << 20
-# How often the messages after an invalid table are repeated. The table can then announce 5,000 words, and hide nothing
-# but complete messages.
+# How often the messages after an invalid table are repeated. The archive is then so long that the table can announce
+# 5,000 words and hide only complete messages.
 MANY = 6
 Ran = tuple[bytes, str, int]
 Place = tuple[int, int, str]
@@ -40,7 +40,7 @@ def see(is_so: bool, what: str) -> None:
 
 
 def seconds() -> float:
-    """Returns the processor time that the child processes took so far."""
+    """Returns the processor time that the child processes have used so far."""
     used = resource.getrusage(resource.RUSAGE_CHILDREN)
     return used.ru_utime + used.ru_stime
 
@@ -64,8 +64,8 @@ def fault_of(archive: bytes) -> str:
 
 
 def recovered(what: str, damaged: bytes, kept: list[bytes], *places: Place, options: tuple[str, ...] = ()) -> None:
-    """Checks that recover.py keeps these messages of a damaged archive, and no other bytes, and that it reports the
-    rest: the offset, the length and the error of each place."""
+    """Checks that recover.py keeps these messages of a damaged archive, and no other bytes. It also has to report the
+    offset, the length and the error of each place that it skips."""
     Path("damaged").write_bytes(damaged)
     whole = b"".join(kept)
     out, errors, status = script("recover.py", "--good", "good", *options, "damaged")
@@ -83,7 +83,7 @@ def nested(inner: bytes) -> bytes:
 
 
 def sized(message: bytes, words: int) -> bytes:
-    """Returns a message of one segment whose table announces this many words."""
+    """Returns a message of one segment, with a table that announces this many words."""
     return message[:4] + struct.pack("<I", words) + message[8:]
 
 
@@ -101,18 +101,19 @@ def recover(source: random.Random, messages: list[bytes]) -> None:
         began = seconds()
         recovered(f"{size} bytes of garbage", head + garbage + tail, messages, (at, size, fault))
         see(seconds() - began < 2, f"{size} bytes of garbage took {seconds() - began} seconds of a processor")
-    # Segment tables that announce one word too few, one too many, as many as with the next message, and more than the
-    # archive has.
+    # The segment table announces one word too few, one too many, as many words as the message and the next one
+    # together, and more words than the archive has.
     words = first // 8 - 1
     for said in (words - 1, words + 1, words + len(after[1]) // 8, 5000, 1 << 24):
         table = sized(after[0], said)
         recovered(f"a table of {said} words", head + table + rest * MANY, before + after[1:] * MANY,
                   (at, first, fault_of(table + rest * MANY)))
-    # Zeros overwrite the end of a message, the next one, and the beginning of a third.
+    # Zeros overwrite the end of a message, the next message, and the beginning of a third.
     zeros = tail[:16] + bytes(first + len(after[1]) - 8) + tail[first + len(after[1]) + 8:]
     recovered("zeros", head + zeros, before + after[3:], (at, sum(map(len, after[:3])), fault_of(zeros)))
     recovered("13 bytes lost", head + rest[13:], before + after[2:], (at, len(after[1]) - 13, fault_of(rest[13:])))
-    # Rejected messages with a good one between them; long messages; and a message with a gap, of which nothing is lost.
+    # Two rejected messages with a good message between them, long messages, and a message with a gap. Nothing of the
+    # message with a gap may be lost.
     refused = REFUSED + after[0] + REFUSED
     recovered("two refused", head + refused + rest, messages, (at, len(REFUSED), fault_of(REFUSED)),
               (at + len(refused) - len(REFUSED), len(REFUSED), fault_of(REFUSED)))
@@ -122,8 +123,8 @@ def recover(source: random.Random, messages: list[bytes]) -> None:
     recovered("a message with a gap", head + gap + tail, before + [gap] + after)
     last = len(messages[-1])
     recovered("a cut", (head + tail)[:-8], messages[:-1], (len(head + tail) - last, last - 8, "frame: Cut"))
-    # A message inside a rejected one is taken for a message of the archive, unless the sample shows that there are
-    # such.
+    # A message inside a rejected message is taken for a message of the archive, unless the option says that messages
+    # hold others.
     holder = nested(after[0])
     holder = holder[:23] + b"\x7f" + holder[24:]
     fault = fault_of(holder)
@@ -135,8 +136,8 @@ def recover(source: random.Random, messages: list[bytes]) -> None:
 
 
 def parallel(messages: list[bytes]) -> None:
-    """Compares the output of the processes for parts with that of one process, on archives that are valid, rejected and
-    truncated."""
+    """Compares the output of the processes for parts with the output of one process. Some archives are valid, some have
+    rejected messages, and some are truncated."""
     some = [it if n % 70 else REFUSED for n, it in enumerate(messages)]
     capability = framed([1 << 48, 3])
     archives = {
@@ -165,15 +166,15 @@ def shell(name: str, *words: str) -> Ran:
 
 
 def texted(text: str) -> bytes:
-    """Returns a message whose root has one pointer, to a text."""
+    """Returns a message whose root has one pointer, which refers to a text."""
     data = text.encode() + b"\0"
     words = struct.unpack(f"<{-(-len(data) // 8)}Q", data.ljust(-(-len(data) // 8) * 8, b"\0"))
     return framed([1 << 48, 1 | 2 << 32 | len(data) << 35, *words])
 
 
 def search() -> None:
-    """Searches for texts that are in some messages, in none, in more than one list of numbers holds, and in archives
-    that are rejected."""
+    """Searches for texts that some messages have, that no message has, and that more messages have than one list of
+    numbers holds. Also searches in archives with rejected messages."""
     ada, grace, without = texted("Ada"), texted('Grace "Hopper"'), canonical(5)
     Path("archive").write_bytes(ada + without + grace + ada)
     see(shell("search.sh", "archive", "0", "Ada") == (ada + ada, "", 0), "messages with Ada")
@@ -190,8 +191,8 @@ def search() -> None:
 
 
 def differences() -> None:
-    """Compares archives with the same values, with other values, with messages that only one has, and with rejected
-    messages."""
+    """Compares archives with the same values, with other values, with messages that only one of them has, and with
+    rejected messages."""
     five, same = framed([2 << 32, 5, 0]), framed([1 << 32, 5])
     others = {n: framed([1 << 32, n]) for n in (6, 7, 8, 9)}
 

@@ -1,8 +1,8 @@
-"""Removes duplicates from archives, over the workers of a Dask cluster, each of which runs `capn`.
+"""Removes duplicates from archives with the workers of a Dask cluster. Each worker runs `capn`.
 
-The files are read as one archive, in the order in which they are given. The first of the messages with the same value
-is kept, as it is or in canonical form. The output is that of one process of `capn uniq --keep-going` for the same
-input, or of `capn canonical --framed` for that output.
+The files are read as one archive, in the order in which they are given. Of the messages with the same value, the first
+is kept, as it is or in canonical form. The output equals the output of one process of `capn uniq --keep-going` for the
+same input, or that output in the form of `capn canonical --framed`.
 """
 
 from __future__ import annotations
@@ -22,7 +22,7 @@ PASSED_OVER = b" messages refused, the first is "
 
 @dataclass(frozen=True)
 class Part:
-    """Complete messages of a file, one after the other: the file, and the range of their bytes."""
+    """Consecutive complete messages of a file: the file, and the range of their bytes."""
 
     path: str
     offset: int
@@ -36,7 +36,7 @@ class Part:
 
 @dataclass(frozen=True)
 class Message:
-    """A message: where it begins and ends, and its digest, or the error for which it has none."""
+    """A message: where it begins and ends, and its digest, or the error for which it has no digest."""
 
     begin: int
     end: int
@@ -46,8 +46,8 @@ class Message:
 
 @dataclass
 class Report:
-    """The result: the number of messages and of those kept, and for each rejected one its number, its offset and the
-    error."""
+    """The result: the number of messages, the number of messages that were kept, and the number, the offset and the
+    error of each rejected message."""
 
     messages: int = 0
     kept: int = 0
@@ -55,8 +55,8 @@ class Report:
 
 
 def capn(*words: str, **given: Any) -> bytes:
-    """Returns the output of `capn`. Its status may say that rejected messages were skipped. Any other failure
-    raises."""
+    """Returns the output of `capn`. The status may say that rejected messages were skipped. Any other failure raises an
+    exception."""
     ran = subprocess.run([os.environ.get("CAPN", "capn"), *words], capture_output=True, check=False, **given)
     if ran.returncode and not (ran.stderr.count(b"\n") == 1 and PASSED_OVER in ran.stderr):
         raise RuntimeError(f"capn {' '.join(words)}: status {ran.returncode}: {ran.stderr.decode().strip()}")
@@ -64,7 +64,7 @@ def capn(*words: str, **given: Any) -> bytes:
 
 
 def message_of(line: str) -> Message:
-    """Returns the message of a line of `capn list`."""
+    """Returns the message that a line of `capn list` describes."""
     head, _, refusal = line.partition(" refused ")
     words = head.split()
     named = dict(zip(words[1::2], words[2::2]))
@@ -79,7 +79,8 @@ def messages_of(listing: bytes) -> list[Message]:
 
 
 def cut(path: str, most: int) -> list[Part]:
-    """Returns the parts of a file. A part has complete messages of at most this many bytes, or a single longer one."""
+    """Returns the parts of a file. A part has complete messages of at most this many bytes, or a single longer
+    message."""
     with open(path, "rb") as file:
         try:
             messages = messages_of(capn("list", "--keep-going", stdin=file))
@@ -95,7 +96,7 @@ def cut(path: str, most: int) -> list[Part]:
 
 
 def digests(part: Part) -> list[Message]:
-    """Returns the messages of a part, checked, with the digest of the canonical bytes of each."""
+    """Returns the messages of a part, each checked and with the digest of its canonical bytes."""
     return messages_of(capn("list", "--digest", "--keep-going", input=part.read()))
 
 
@@ -115,7 +116,7 @@ class Choice:
         self.offset = 0
 
     def of(self, part: Part, messages: list[Message]) -> list[Message]:
-        """Returns the messages of the next part that are kept."""
+        """Returns which messages of the next part are kept."""
         kept = []
         for number, message in enumerate(messages, self.report.messages + 1):
             if message.refusal:
@@ -130,13 +131,13 @@ class Choice:
 
 
 def tasks(client: Client, *call: Any, **options: Any) -> list[Future]:
-    """Returns a task for each argument of a call. Each key is new, because Dask's keys by content can't tell two equal
-    parts apart."""
+    """Returns a task for each argument of a call. Each task has a new key. Dask would make keys from the content, and
+    two equal parts would get the same key."""
     return client.map(*call, **options, pure=False)
 
 
 def dedupe(client: Client, paths: list[str], out: BinaryIO, most: int, is_canonical: bool) -> Report:
-    """Writes the first message of each value of these files, in the order of the files."""
+    """Writes the first message of each value in these files, in the order of the files."""
     parts = [part for found in tasks(client, cut, paths, most=most) for part in found.result()]
     choice = Choice()
     kept = [choice.of(part, found.result()) for part, found in zip(parts, tasks(client, digests, parts))]
@@ -146,7 +147,7 @@ def dedupe(client: Client, paths: list[str], out: BinaryIO, most: int, is_canoni
 
 
 def told(report: Report) -> str:
-    """Returns the lines of a report. The last line is that of `capn`."""
+    """Returns the lines of a report. The last line equals the line of `capn`."""
     lines = [f"{report.kept} of {report.messages - len(report.refused)}"]
     lines += [f"message {number} at {offset}: {refusal}" for number, offset, refusal in report.refused]
     if report.refused:
@@ -156,8 +157,8 @@ def told(report: Report) -> str:
 
 
 def write(client: Client, paths: list[str], options: argparse.Namespace) -> Report:
-    """Writes the result into a file beside its place, and moves it there once it is complete. Until then the old file
-    stays."""
+    """Writes the result into a temporary file in the same folder, and renames that file when it is complete. Until then
+    the old file stays."""
     folder, name = os.path.split(os.path.abspath(options.out))
     with tempfile.NamedTemporaryFile(dir=folder, prefix=f".{name}.", delete=False) as out:
         try:

@@ -1,7 +1,7 @@
-"""Writes archives on which to try the example: messages.py FOLDER MESSAGES FILES.
+"""Writes archives on which the example can be tried: messages.py FOLDER MESSAGES FILES.
 
-A message is a number and its text, in one of three layouts: canonical, with another word of zeros, or in two segments.
-Most values come several times. One of each 5,000 messages is rejected, and one has a capability.
+A message is a number and its text in one of three layouts: canonical, with an additional zero word, or in two segments.
+Most values occur several times. One of each 5,000 messages is rejected, and one message has a capability.
 """
 
 from __future__ import annotations

@@ -1,6 +1,6 @@
-"""Tests the example on a local cluster of two workers, one of which is ended in the middle: trial.py FOLDER.
+"""Tests the example on a local cluster of two workers: trial.py FOLDER. One worker is ended in the middle.
 
-Fails if the output or the counts for the archives of the folder differ from those of one process of `capn`.
+The test fails if the output or the counts for the folder's archives differ from those of one process of `capn`.
 """
 
 from __future__ import annotations
@@ -16,12 +16,12 @@ from pathlib import Path
 from dedupe import Report, dedupe, told
 from distributed import Client, LocalCluster
 
-# The most bytes of a part, and the number of parts that are written before a worker is ended.
+# The most bytes of a part, and how many parts are written before a worker is ended.
 MOST, BEFORE = 1 << 17, 5
 
 
 class Ending(io.BytesIO):
-    """An output that ends a worker once some parts have been written: the worker that has the most results."""
+    """An output that ends a worker once some parts have been written. It ends the worker that has the most results."""
 
     def __init__(self, client: Client) -> None:
         super().__init__()
@@ -46,7 +46,7 @@ def by_one_process(data: bytes, *words: str) -> tuple[bytes, str]:
 
 
 def run_command(paths: list[str]) -> subprocess.CompletedProcess[bytes]:
-    """Runs the command of the example, without other workers, with the result in the file framed."""
+    """Runs the example's command without other workers. The result goes into the file framed."""
     script = Path(__file__).with_name("dedupe.py")
     words = [sys.executable, "-B", str(script), "--canonical", "--most", str(MOST), "framed", *paths]
     return subprocess.run(words, capture_output=True, check=False)
@@ -59,8 +59,8 @@ def by_command(paths: list[str]) -> tuple[bytes, str]:
 
 
 def is_named(paths: list[str]) -> bool:
-    """Returns whether a truncated file is named, the result of an earlier run stays, and no other file lies beside
-    it."""
+    """Returns whether the command names a truncated file, keeps the result of an earlier run, and leaves no other file
+    beside it."""
     before = Path("framed").read_bytes()
     cut = Path("cut.messages")
     cut.write_bytes(Path(paths[0]).read_bytes()[:-8])
