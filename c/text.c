@@ -98,7 +98,7 @@ static void put(struct text *text, const char *words) {
 }
 
 static void put_number(struct text *text, const char *before, uint64_t number, const char *after) {
-    char digits[21]; /* 2^64 - 1 has 20 */
+    char digits[21]; /* 2^64 - 1 has 20 digits */
     char *first = digits + 20;
     *first = 0;
     do *--first = (char)('0' + number % 10);

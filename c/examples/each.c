@@ -31,7 +31,7 @@ int main(int count, char **words) {
         if (status == CAPN_OK) {
             for (int i = 0; i < 32; i++) printf("%02x", digest[i]);
             printf("\n");
-        } else { /* taken is 0 if the segment table is wrong: then nothing says where the next message begins */
+        } else { /* the segment table is invalid, so nothing says where the next message begins */
             print_error(number, from, status, &report);
             is_valid = 0;
             if (taken == 0) break;

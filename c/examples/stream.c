@@ -18,7 +18,7 @@ int main(void) {
     const capn_limits limits = CAPN_USUAL_LIMITS;
     uint8_t *bytes = NULL, digest[32];
     size_t have = 0, room = 0;
-    uint64_t number = 1, offset = 0; /* of the message that begins in `bytes` */
+    uint64_t number = 1, offset = 0; /* those of the message that begins in `bytes` */
     int is_valid = 1;
     capn_report report;
     capn_status status;
@@ -45,7 +45,7 @@ int main(void) {
             free(bytes);
             return 2;
         }
-        if (status != CAPN_OK) break; /* the segment table is wrong: nothing says where the next message begins */
+        if (status != CAPN_OK) break; /* the segment table is invalid, so nothing says where the next message begins */
         status = capn_hash(CAPN_STREAM, bytes, have, &limits, digest, &report);
         if (status == CAPN_MEMORY) break;
         if (status == CAPN_OK) {

@@ -24,7 +24,7 @@ int main(int count, char **words) {
     uint8_t digest[32];
     capn_report report;
     const capn_status status = capn_hash(CAPN_STREAM, bytes, size, &limits, digest, &report);
-    if (status != CAPN_OK) { /* bytes after the message are an error too: two messages are not one */
+    if (status != CAPN_OK) { /* bytes after the message are an error, too, since the file must be one message */
         char text[128];
         capn_refusal_text(status, &report, text, sizeof text);
         fprintf(stderr, "rejected: %s\n", text);

@@ -11,7 +11,7 @@ namespace {
 
 double most = 1e9;
 bool failed = false;
-std::uint64_t sum = 0; /* so that the compiler doesn't remove a call */
+std::uint64_t sum = 0; /* uses the results, so that the compiler keeps the calls */
 
 template <class Call> double once(unsigned times, Call call) {
     const auto from = std::chrono::steady_clock::now();

@@ -156,7 +156,7 @@ static uint64_t read_record(const capn_record *record) {
     return sum;
 }
 
-static volatile uint64_t kept; /* so that what is read is used */
+static volatile uint64_t kept; /* uses what is read, so that the compiler keeps the reads */
 
 /* Returns in how many ways an entry can be read: as a struct, as a text, as a data, and as each kind of list. */
 static int read_any(const capn_entry *entry) {
@@ -479,9 +479,10 @@ static void by_hand(void) {
     want("other numbers", capn_text(abc, &entry, &text, &length), 0);
 
     /* Tests which kind of list can be read as which. Each kind is read as each other kind, with two elements. */
-    static const char *const taken[] = { /* wanted void bits bytes u16 u32 u64 pointers rows, found the same */
+    /* Each string has a wanted kind, and each character a found kind: void bits bytes u16 u32 u64 pointers rows. */
+    static const char *const taken[] = {
         "1......1", ".1......", "..1....1", "...1...1", "....1..1", ".....1.1", "......11", "1.111111"};
-    static const int64_t full[] = {0, 1, 0xff, 0xffff, 0xffffffff, -1}; /* numbers whose bits are all 1, from void on */
+    static const int64_t full[] = {0, 1, 0xff, 0xffff, 0xffffffff, -1}; /* all bits are 1, from void on */
     uint8_t ones[128];
     memset(ones, 0xff, sizeof ones);
     for (uint32_t wanted = CAPN_KIND_VOID; wanted <= CAPN_KIND_ROWS; wanted++)

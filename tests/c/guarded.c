@@ -201,7 +201,7 @@ static void choose(capn_limits *l) {
     if (choice == 4) l->depth = 1 + any(256);
     if (choice & 1) l->tariff = any(2);
     if (choice == 6) {
-        uint32_t *const all = (uint32_t *)l; /* each limit is such a number */
+        uint32_t *const all = (uint32_t *)l; /* each limit is a number of 32 bits */
         all[any(sizeof *l / sizeof *all)] = any(2) ? (uint32_t)draw() : any(4);
     }
 }
@@ -321,7 +321,7 @@ static size_t call(uint32_t which, const uint8_t *bytes, size_t size, size_t eno
     case 12: {
         doing = "capn_canonical_with_scratch";
         const size_t lent = any(3) ? any(ROOM / 8) : any(3);
-        uint8_t *scratch = part(of_other, 8 * lent); /* its contents afterwards have no meaning */
+        uint8_t *scratch = part(of_other, 8 * lent); /* its contents mean nothing after the call */
         out = filled(of_out, room);
         status = capn_canonical_with_scratch(form, bytes, size, limits, scratch, lent, out, room, r);
         need(status != CAPN_MEMORY, "no memory is asked for");

@@ -54,7 +54,7 @@ static void compare(const capn_segment *segments, size_t count, const uint8_t *f
         wanted = capn_canonical(CAPN_STREAM, frame, size, limits, other, room, &told);
         same("canonical", status, wanted, &report, &told, out, other, room);
         if (status > CAPN_NO_ROOM) break;
-        room = round ? told.length - 1 : told.length; /* enough, exactly the length, and a byte less */
+        room = round ? told.length - 1 : told.length; /* the next buffer: exactly the length, then a byte less */
     }
     free(out);
     free(other);

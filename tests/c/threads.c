@@ -76,7 +76,7 @@ int main(void) {
     stream[5] = WORDS >> 8;
     for (size_t i = 0; i < DEPTH; i++) {
         uint8_t *slot = stream + 16 + (i ? 8 * (2 * i - 1) : 0);
-        slot[0] = i ? 4 : 0; /* over the second pointer of its own struct */
+        slot[0] = i ? 4 : 0; /* skips the second pointer of its own struct */
         slot[i + 1 < DEPTH ? 6 : 4] = i + 1 < DEPTH ? 2 : 1;
     }
     stream[sizeof stream - 8] = 7;

@@ -8,7 +8,7 @@
 
 static uint8_t *of_digits(const char *digits, size_t *size) {
     *size = strcmp(digits, "-") ? strlen(digits) / 2 : 0;
-    uint8_t *bytes = *size ? malloc(*size) : NULL; /* exactly as long, so that a sanitizer sees a read past them */
+    uint8_t *bytes = *size ? malloc(*size) : NULL; /* exactly this size, so that a sanitizer detects a longer read */
     for (size_t i = 0; i < *size; i++) {
         unsigned byte;
         sscanf(digits + 2 * i, "%2x", &byte);

@@ -167,7 +167,7 @@ int main(int count, char **words) {
         told = canonical_into(bytes, size, &limits, out, sizeof out, &length);
         printf("%s %zu\n", capn_status_name(told), length);
     } else if (!strcmp(doing, "is_canonical")) printf("%d\n", is_canonical(bytes, size, &limits));
-    else if (!strcmp(doing, "compare")) { /* the first message of a stream, and the rest */
+    else if (!strcmp(doing, "compare")) { /* compares the first message of a stream with the rest */
         capn_report report;
         if (capn_first(bytes, size, &limits, &report) != CAPN_OK) fail("no first message");
         compare(bytes, report.length, bytes + report.length, size - report.length, &limits);
