@@ -68,7 +68,7 @@ func TestCalls(t *testing.T) {
 	}
 }
 
-// packedOf is the packed text of a message.
+// packedOf returns the packed bytes of a message.
 func packedOf(t *testing.T, message []byte) []byte {
 	t.Helper()
 	text, err := Pack(message)
@@ -122,7 +122,7 @@ func TestSame(t *testing.T) {
 	}
 }
 
-// Pairs of generated messages are the same exactly where their canonical bytes are.
+// Two generated messages are the same if and only if their canonical bytes are equal.
 func TestSameAsCanonicalBytes(t *testing.T) {
 	source := rand.New(rand.NewSource(79))
 	var messages, canonical [][]byte
@@ -150,7 +150,7 @@ func TestSameAsCanonicalBytes(t *testing.T) {
 	}
 }
 
-// An object that many pointers lead to is written for each: the canonical bytes are longer than the message.
+// An object is written once for each pointer to it. So the canonical bytes can be longer than the message.
 func TestLongAnswer(t *testing.T) {
 	const count = 500
 	words := []uint64{1 | 6<<32 | count<<35}
@@ -171,7 +171,7 @@ func TestLongAnswer(t *testing.T) {
 	}
 }
 
-// A message that lies where the answer would be written stays as it is, and another slice is returned.
+// A message may lie where the result would be written. It must stay unchanged, and another slice is returned.
 func TestOverlappingAnswer(t *testing.T) {
 	source := rand.New(rand.NewSource(82))
 	for i := 0; i < 500; i++ {
@@ -183,7 +183,7 @@ func TestOverlappingAnswer(t *testing.T) {
 		if err != nil {
 			t.Fatal(err)
 		}
-		// The message begins `before` bytes behind the end of dst, or reaches into it.
+		// The message begins `before` bytes after the end of dst. With a negative number it reaches into dst.
 		for _, before := range []int{0, 1, 8, 64, -3} {
 			begin := 100 + before
 			whole := make([]byte, begin+len(message), begin+len(message)+i)
@@ -199,7 +199,7 @@ func TestOverlappingAnswer(t *testing.T) {
 				t.Fatalf("%d bytes before: the message was changed", before)
 			}
 		}
-		// The idiom by which a slice is used again; and a refusal, which leaves dst as it was.
+		// First a slice is reused by the usual idiom. Then a message is rejected, and dst must stay unchanged.
 		m := append([]byte{}, message...)
 		got, err := AppendCanonical(m[:0], m, Stream, nil)
 		if err != nil || !bytes.Equal(got, want) || !bytes.Equal(m, message) {
@@ -210,7 +210,7 @@ func TestOverlappingAnswer(t *testing.T) {
 			t.Fatal(got, err)
 		}
 	}
-	// Where there is room and no byte in common, the room is used.
+	// If the buffer has room and shares no byte with the message, the buffer is used.
 	room := make([]byte, 200)
 	copy(room[100:], small)
 	got, err := AppendCanonical(room[:4:100], room[100:132], Stream, nil)
@@ -223,7 +223,7 @@ func TestShow(t *testing.T) {
 	list := bytesOf([][]uint64{{1 | 26<<32, 0x6968}})[0]
 	letter := bytesOf([][]uint64{{1 | 26<<32, 0xa4c3}})[0]
 	long := append(bytesOf([][]uint64{{1 | 2<<32 | 8000<<35}})[0], make([]byte, 8000)...)
-	// A text that is longer than the room that is tried first.
+	// A dump that is longer than the buffer that is tried first.
 	bits := append(bytesOf([][]uint64{{1 | 1<<32 | 64000<<35}})[0], make([]byte, 8000)...)
 	packed, err := Pack(small)
 	if err != nil {
@@ -318,9 +318,9 @@ func TestRefusals(t *testing.T) {
 	}
 }
 
-// A zero Limits is the default ones, in each call; of another one a field that is left out is 0.
+// In each call, a zero Limits stands for the default limits. In another Limits, a field that is left out is 0.
 func TestZeroLimits(t *testing.T) {
-	// Two words of budget more than the default, and a message of more words than the default.
+	// One message costs two words more than the default budget, and the other has more words than the default limit.
 	costly := bare(1|7<<32, 8388607<<2)
 	long := append(bare(8388609<<32), make([]byte, 8*8388609)...)
 	for _, limits := range []*Limits{nil, {}} {
@@ -351,7 +351,7 @@ func TestZeroLimits(t *testing.T) {
 	}
 }
 
-// A status that the call doesn't have is no refusal of the message.
+// A status that the call can't return isn't an error of the message.
 func TestOtherStatuses(t *testing.T) {
 	for status := uint32(1); status < 256; status++ {
 		err := failure(status, report{})
@@ -372,7 +372,7 @@ func TestOtherStatuses(t *testing.T) {
 			}
 		}
 	}
-	// A message that changes between two calls, so that no room is enough.
+	// The message changes between two calls, so no buffer is large enough.
 	asked := 0
 	_, err := filled(nil, 1, func(out []byte) (uint32, report) {
 		asked++
@@ -385,21 +385,21 @@ func TestOtherStatuses(t *testing.T) {
 
 func second[T any](_ T, err error) error { return err }
 
-// limitsWith are limits of these numbers, and for the rest the usual ones.
+// limitsWith returns the default limits with these numbers.
 func limitsWith(messageWords, budget, depth uint32, tariff Tariff) *Limits {
 	limits := UsualLimits()
 	limits.MessageWords, limits.Budget, limits.Depth, limits.Tariff = messageWords, budget, depth, tariff
 	return &limits
 }
 
-// Each status from 16 on that the header has is a kind with its name, and no other is.
+// Each status of the header from 16 on is a kind with its name, and there is no other kind.
 func TestHeader(t *testing.T) {
 	header, err := os.ReadFile("../c/capn.h")
 	if err != nil {
 		t.Fatal(err)
 	}
 	for kind, name := range names {
-		// As TooManyWords is written in C.
+		// The name as it is written in C, such as TOO_MANY_WORDS for TooManyWords.
 		var inC strings.Builder
 		for _, letter := range name {
 			if letter < 'a' {

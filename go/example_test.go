@@ -11,7 +11,7 @@ import (
 	capn "example.org/capn/go"
 )
 
-// Two encodings of the value (id = 5): the second one has a word more, of zeros.
+// Two encodings of the value (id = 5). The second has an additional zero word.
 var (
 	tight = []byte("\x00\x00\x00\x00\x02\x00\x00\x00" + "\x00\x00\x00\x00\x01\x00\x00\x00" +
 		"\x05\x00\x00\x00\x00\x00\x00\x00")
@@ -48,7 +48,7 @@ func ExampleSame() {
 	// Output: true <nil>
 }
 
-// A message that is rejected doesn't end a stream.
+// A rejected message doesn't end a stream.
 func ExampleReader() {
 	stream := bytes.NewReader(bytes.Join([][]byte{tight, invalid, loose}, nil))
 	messages := capn.NewReader(stream, nil)
@@ -73,7 +73,7 @@ func ExampleReader() {
 	// message 3 at 40
 }
 
-// What a message has is read by a schema: here `id @0 :UInt64; name @1 :Text = "nobody"`.
+// A message is read with a schema, here `id @0 :UInt64; name @1 :Text = "nobody"`.
 func ExampleNewIndex() {
 	index, err := capn.NewIndex(tight, capn.Stream, nil)
 	if err != nil {

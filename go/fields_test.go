@@ -16,11 +16,12 @@ import (
 	"unicode/utf8"
 )
 
-// The fields of tests/c/fields.capnp, read as its older or its newer type, and each message of other schemas as
-// anything. CAPN_FIELDS names a folder with what the reference implementation's generated code wrote and read.
-// CAPN_MIXED names a file with messages of tests/c/mixed.py, and CAPN_LINES the file that is written of them.
+// The fields of tests/c/fields.capnp, read with its older or its newer type, and each message of other schemas as
+// anything. CAPN_FIELDS names a folder with the messages that the reference implementation's generated code wrote, and
+// what it read. CAPN_MIXED names a file with messages of tests/c/mixed.py. CAPN_LINES names the file into which their
+// lines are written.
 
-// reading reads fields until one is not as the schema says.
+// reading reads fields until a field isn't as the schema says.
 type reading struct {
 	out strings.Builder
 	err error
@@ -66,7 +67,7 @@ func digit(is bool) int {
 	return 0
 }
 
-// shown is a message as the generated code shows it.
+// shown returns a message as the generated code shows it.
 func shown(message []byte, isNew bool) (string, error) {
 	index, err := NewIndex(message, Stream, nil)
 	if err != nil {
@@ -149,7 +150,7 @@ func shown(message []byte, isNew bool) (string, error) {
 	return r.out.String(), r.err
 }
 
-// readStruct reads fields and pointers of a struct, within it and beyond.
+// readStruct reads fields and pointers of a struct, inside the struct and beyond its end.
 func readStruct(t *testing.T, of Value) {
 	for i := 0; i < of.DataWords()+3; i++ {
 		_ = of.Uint64(i, 1)
@@ -167,7 +168,7 @@ func readStruct(t *testing.T, of Value) {
 	}
 }
 
-// readAny counts how many things a pointer and those below it are taken for, and how many pointers they are.
+// readAny counts how many readings succeed for a pointer and the pointers below it, and how many pointers these are.
 func readAny(t *testing.T, v Value, things, pointers *int) {
 	*pointers++
 	if of, err := v.AsStruct(); err == nil {
@@ -176,12 +177,12 @@ func readAny(t *testing.T, v Value, things, pointers *int) {
 	}
 	if data, err := v.AsData(); err == nil {
 		*things++
-		// A text that may not be UTF-8.
+		// The text need not be UTF-8.
 		if v.Kind() == Null || len(data) > 0 && data[len(data)-1] == 0 {
 			*things++
 		}
 	}
-	// A list without size is one of structs, and of nothing else.
+	// A list of elements without size can only be read as a list of structs.
 	if v.Kind() == Null || v.Kind() == Voids || v.Kind() == Rows {
 		*things++
 	}
@@ -206,7 +207,7 @@ func readAny(t *testing.T, v Value, things, pointers *int) {
 	eachBelow(v, func(below Value) { readAny(t, below, things, pointers) })
 }
 
-// eachBelow calls back with the object of each pointer of an object, in order.
+// eachBelow calls a function with the object of each pointer of an object, in order.
 func eachBelow(v Value, call func(Value)) {
 	switch v.Kind() {
 	case Struct:
@@ -226,8 +227,7 @@ func eachBelow(v Value, call func(Value)) {
 	}
 }
 
-// A sum is what a line has of the numbers that were read as one thing: FNV-1a, with numbers of 64 bits in place of
-// bytes.
+// A sum stands for all numbers of one reading in a line. It is FNV-1a over numbers of 64 bits instead of bytes.
 type sum uint64
 
 func sumOf(numbers ...uint64) *sum {
@@ -248,8 +248,8 @@ func sumOfBytes(all []byte) *sum {
 	return s
 }
 
-// fields adds each fifth bit and the fields of each width up to the bit 256, of which field i has the default i + 1, or
-// with a sign -(i + 1); then how many pointers a struct has, and the kinds of the first four.
+// fields adds each fifth bit, and the fields of each width below the bit 256. Field i of a width has the default i + 1,
+// or -(i + 1) if it is signed. Then it adds the number of pointers, and the kinds of the first four.
 func (s *sum) fields(of Value) {
 	for i := 0; i < 256; i += 5 {
 		s.add(uint64(digit(of.Bool(i, (i+1)%2 != 0))))
@@ -284,7 +284,7 @@ func (s *sum) fields(of Value) {
 	}
 }
 
-// writeLines writes a line for a pointer and for each below it, as tests/c/fields.c does.
+// writeLines writes a line for a pointer, and a line for each pointer below it, as tests/c/fields.c does.
 func writeLines(out *bytes.Buffer, v Value) {
 	fmt.Fprint(out, v.Kind())
 	write := func(s *sum, err error) {
@@ -304,7 +304,7 @@ func writeLines(out *bytes.Buffer, v Value) {
 		text, err := v.AsText("none")
 		write(sumOfBytes([]byte(text)), err)
 	case err == nil && len(data) > 0 && data[len(data)-1] == 0:
-		// A text that may not be UTF-8. If it is, AsText has it.
+		// The text need not be UTF-8. AsText returns it if it is.
 		text := data[:len(data)-1]
 		if utf8.Valid(text) {
 			valid, err := v.AsText("none")
@@ -317,7 +317,7 @@ func writeLines(out *bytes.Buffer, v Value) {
 		write(sumOf(), err)
 	}
 	write(sumOfBytes(data), err)
-	// A list without size is one of structs, and of nothing else.
+	// A list of elements without size can only be read as a list of structs.
 	if v.Kind() == Null || v.Kind() == Voids || v.Kind() == Rows {
 		write(sumOf(uint64(v.Len())), nil)
 	} else {
@@ -347,7 +347,7 @@ func writeLines(out *bytes.Buffer, v Value) {
 	eachBelow(v, func(below Value) { writeLines(out, below) })
 }
 
-// Each message of mixed.py has its length before it.
+// Before each message of mixed.py stands its length.
 func TestLinesOfMixed(t *testing.T) {
 	mixed, to := os.Getenv("CAPN_MIXED"), os.Getenv("CAPN_LINES")
 	if mixed == "" || to == "" {

@@ -11,7 +11,7 @@ import (
 	"testing"
 )
 
-// same says whether what is read is the value that was laid out.
+// same returns whether the value that is read equals the value that was laid out.
 func same(t *testing.T, got Value, want *item) {
 	t.Helper()
 	switch want.kind {
@@ -148,7 +148,7 @@ func TestOtherKinds(t *testing.T) {
 	}
 }
 
-// What is read by a schema, of what the reference implementation's program wrote by it.
+// The reference implementation's program writes messages with a schema. Their fields are read with the same schema.
 func TestFields(t *testing.T) {
 	program, err := exec.LookPath("capnp")
 	if err != nil {
@@ -200,7 +200,7 @@ func TestFields(t *testing.T) {
 				t.Errorf("%s: field %d is %v, not %v", one.kind, i, got[i], want[i])
 			}
 		}
-		// A list of numbers may come as rows of a newer writer.
+		// In place of a list of numbers, a newer writer may have written structs.
 		var numbers []uint64
 		for i := 0; i < r.Slot(1).Len() && r.Slot(1).Kind() == U16s; i++ {
 			numbers = append(numbers, r.Slot(1).At(i))

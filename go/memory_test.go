@@ -14,7 +14,7 @@ import (
 	"testing"
 )
 
-// taken is how many bytes a function allocates for Go. What the library takes meanwhile isn't among them.
+// taken returns how many bytes a function allocates in Go. Memory that the library allocates isn't counted.
 func taken(call func()) uint64 {
 	var before, after runtime.MemStats
 	runtime.ReadMemStats(&before)
@@ -23,7 +23,7 @@ func taken(call func()) uint64 {
 	return after.TotalAlloc - before.TotalAlloc
 }
 
-// Many answers in one buffer take as many bytes as append does: a few times what they have in the end.
+// Many results are appended to one buffer. As with append, this allocates only a few times their final length.
 func TestAppendMany(t *testing.T) {
 	const count, words = 4000, 125
 	message := append(bare((1+words)<<32, words<<32), bytes.Repeat([]byte{1}, 8*words)...)
@@ -49,10 +49,10 @@ func TestAppendMany(t *testing.T) {
 	}
 }
 
-// An answer that is much shorter than the buffer that was made for it doesn't keep the buffer.
+// A result that is much shorter than the buffer that was made for it doesn't keep this buffer.
 func TestShortAnswers(t *testing.T) {
-	// Null roots, with words after them to which nothing leads: below the size from which on they are checked first,
-	// and above it.
+	// Null roots, followed by words that no pointer refers to. From some size on a message is checked first, and the sizes
+	// are below it and above it.
 	for _, size := range []int{1 << 12, 1 << 19, 1 << 23} {
 		null := append(bare(uint64(size/8)<<32), make([]byte, size)...)
 		for form, data := range map[Form][]byte{Stream: null, Packed: packed(t, null), Bare: null[8:]} {
@@ -83,7 +83,7 @@ func TestShortAnswers(t *testing.T) {
 	}
 }
 
-// A call that has room uses it, and makes none.
+// A call uses a buffer that is large enough, and makes no other buffer.
 func TestRoomThatIsThere(t *testing.T) {
 	const count = 1<<18 - 1
 	message := append(bare((count+1)<<32, 1|5<<32|count<<35), bytes.Repeat([]byte{1}, 8*count)...)
@@ -98,7 +98,7 @@ func TestRoomThatIsThere(t *testing.T) {
 	}
 }
 
-// Limits are looked at before segments are copied.
+// The limits are tested before segments are copied.
 func TestSegmentsBeforeTheyAreCopied(t *testing.T) {
 	long := make([]byte, 1<<20)
 	repeated := func(count int) [][]byte {
@@ -145,7 +145,7 @@ func TestSegmentsBeforeTheyAreCopied(t *testing.T) {
 	}
 }
 
-// Bytes that are there and take no memory as long as nobody reads them: a mapping of zeros, with some at its start.
+// mapped returns a mapping of zeros with some bytes at its start. The zeros take no memory until they are read.
 func mapped(t *testing.T, size int, start []byte) []byte {
 	t.Helper()
 	data, err := syscall.Mmap(-1, 0, size, syscall.PROT_READ|syscall.PROT_WRITE,
@@ -160,8 +160,8 @@ func mapped(t *testing.T, size int, start []byte) []byte {
 
 const narrow = "CAPN_NARROW"
 
-// An input of 5 GiB, in 8 GiB of addresses: each call rejects it as Check does, and asks for no more memory than its
-// limits allow. The race detector and cgocheck take more addresses than that.
+// An input of 5 GiB in 8 GiB of address space. Each call must reject it as Check does, and must not allocate more
+// memory than its limits allow. The race detector and cgocheck need more address space than that.
 func TestLongInput(t *testing.T) {
 	const size = 5 << 30
 	if os.Getenv(narrow) == "" {
@@ -180,7 +180,8 @@ func TestLongInput(t *testing.T) {
 	if err := syscall.Getrlimit(syscall.RLIMIT_AS, &limit); err != nil || limit.Cur > 8<<30 {
 		t.Fatal(limit, err)
 	}
-	// A table of one segment with all the words that follow, a little more than the greatest limit.
+	// A segment table announces one segment with all the words that follow. They are a little more than the greatest
+	// limit.
 	data := mapped(t, size, nil)
 	calls := map[string]func(Form, *Limits) error{
 		"canonical": func(form Form, l *Limits) error { return second(Canonical(data, form, l)) },
@@ -224,10 +225,10 @@ func last(text string, size int) string {
 	return text
 }
 
-// A large message that is accepted gets a buffer of what it costs, and one that is rejected gets none.
+// An accepted large message gets a buffer as large as its cost, and a rejected one gets no buffer.
 func TestBuffersOfLargeMessages(t *testing.T) {
 	const words = 1 << 20
-	// A list of numbers, and words to which nothing leads.
+	// A list of numbers, followed by words that no pointer refers to.
 	short := append(bare(words<<32, 1|5<<32|1000<<35), make([]byte, 8*(words-1))...)
 	outside := append(bare(words<<32, 1|5<<32|words<<35), make([]byte, 8*(words-1))...)
 	for form, messages := range map[Form][2][]byte{

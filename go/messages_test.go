@@ -7,9 +7,9 @@ import (
 	"math/rand"
 )
 
-// Messages for the tests: values that are laid out in one segment or several, and words that are mostly no message.
+// Messages for the tests. They are values in one segment or several, and words that are mostly not a message.
 
-// item is a value: null, a struct, a list of numbers, of pointers or of structs.
+// item is a value: null, a struct, or a list of numbers, of pointers or of structs.
 type item struct {
 	kind  byte // 0, 's', 'l', 'p', 'r'
 	words []uint64
@@ -72,8 +72,9 @@ type builder struct {
 	segments [][]uint64
 }
 
-// segmentsOf has the segments of a value. With more than one, each object may be in any, behind a pad. Each segment
-// begins with a word, since the reference implementation finds no object of no words in a segment without any.
+// segmentsOf returns the segments of a value. With several segments, each object may be in any segment, behind a
+// landing pad. Each segment begins with a word, because in a segment without words the reference implementation finds
+// no object without words.
 func segmentsOf(source *rand.Rand, root *item, segments int) [][]uint64 {
 	b := &builder{source, make([][]uint64, segments)}
 	for i := range b.segments {
@@ -106,17 +107,17 @@ func (b *builder) put(segment, at int, value *item) {
 	switch {
 	case in == segment:
 		if size == 0 && value.kind == 's' {
-			// With the offset 0 this would be a null pointer.
+			// With the offset 0 this word would be a null pointer.
 			start = at
 		}
 		b.segments[segment][at] = pointer | uint64(uint32(start-at-1)<<2)
 	case b.source.Intn(3) > 0:
-		// A pad beside the object.
+		// A landing pad in the segment of the object.
 		pad := len(b.segments[in])
 		b.segments[in] = append(b.segments[in], pointer|uint64(uint32(start-pad-1)<<2))
 		b.segments[segment][at] = 2 | uint64(pad)<<3 | uint64(in)<<32
 	default:
-		// A pad of two words in some segment.
+		// A landing pad of two words in some segment.
 		to := b.source.Intn(len(b.segments))
 		pad := len(b.segments[to])
 		b.segments[to] = append(b.segments[to], 2|uint64(start)<<3|uint64(in)<<32, pointer)
@@ -155,7 +156,7 @@ func bytesOf(segments [][]uint64) [][]byte {
 	return found
 }
 
-// hostileWords are the segments of what is mostly no message: words, of which most are pointers to somewhere near.
+// hostileWords returns segments that are mostly not a message. Most of their words are pointers to places nearby.
 func hostileWords(source *rand.Rand) [][]uint64 {
 	segments := make([][]uint64, [...]int{1, 1, 2, 3}[source.Intn(4)])
 	for i := range segments {

@@ -41,7 +41,7 @@ func TestPackedMessages(t *testing.T) {
 	for i := 0; i < 60; i++ {
 		messages, texts := packedMessages(t, source)
 		stream := bytes.Join(texts, nil)
-		// As one text: groups go from one message into the next.
+		// All messages are packed together, so groups cross from one message to the next.
 		whole, err := Pack(bytes.Join(messages, nil))
 		if err != nil {
 			t.Fatal(err)
@@ -57,7 +57,7 @@ func TestPackedMessages(t *testing.T) {
 				if err != nil || !bytes.Equal(got, message) {
 					t.Fatalf("message %d: %x %v", i, got, err)
 				}
-				// No byte after the message was taken.
+				// The reader took no byte after the message.
 				stands -= len(texts[i])
 				if n == 0 && from.(*bytes.Reader).Len() != stands {
 					t.Fatalf("message %d: %d bytes are left, not %d", i, from.(*bytes.Reader).Len(), stands)
@@ -93,7 +93,7 @@ func TestPackedMessages(t *testing.T) {
 			if refused.Kind == ErrPackedCut && (refused.At < uint64(end) || refused.At >= uint64(at)) {
 				t.Fatalf("cut at %d: %v", at, err)
 			}
-			// What the text of these bytes has by the library is cut at the same place.
+			// The library must find the packed bytes truncated at the same place.
 			_, err = Unpack(stream[:at], 1<<24)
 			var other *Error
 			if errors.As(err, &other) != (refused.Kind == ErrPackedCut) || other != nil && other.At != refused.At {

@@ -15,7 +15,7 @@ import (
 	"testing"
 )
 
-// blocks are the fenced blocks of a page in a language.
+// blocks returns the fenced blocks of a page in a language.
 func blocks(t *testing.T, page, language string) []string {
 	t.Helper()
 	text, err := os.ReadFile(page)
@@ -40,7 +40,7 @@ func blocks(t *testing.T, page, language string) []string {
 	return found
 }
 
-// What the functions of each block of the page are called by: a file beside it. A block without one is a program.
+// The programs that call the functions of the page's blocks. A block without such a program is itself a program.
 var callers = []string{
 	"",
 	`package main
@@ -151,7 +151,7 @@ func main() {
 `,
 }
 
-// What the block that signs and verifies says that it imports.
+// The head that the block which signs and verifies asks for.
 const imports = `package main
 
 import (
@@ -164,8 +164,8 @@ import (
 
 `
 
-// The page is followed: the library and the module are installed as it says, in a module of its own, and each of its
-// blocks is compiled by itself and run.
+// TestPage follows the page. It installs the library and the module as the page says, into a module of its own, and
+// compiles and runs each block alone.
 func TestPage(t *testing.T) {
 	shells, parts := blocks(t, "../docs/GO.md", "sh"), blocks(t, "../docs/GO.md", "go")
 	if len(shells) != 1 || len(parts) != len(callers) {
@@ -198,7 +198,7 @@ func TestPage(t *testing.T) {
 	if err != nil {
 		t.Fatal(err)
 	}
-	// An archive as the release has it: the library that the tests are linked with, and the module.
+	// An archive like that of the release, with the library that the tests are linked with, and the module.
 	must("sh", "-ec", `mkdir capn-0 program
 		cp -r "$0/lib" "$0/include" capn-0
 		mkdir capn-0/go && cp "$1"/*.go "$1"/go.mod capn-0/go && rm capn-0/go/*_test.go
@@ -242,7 +242,7 @@ func TestPage(t *testing.T) {
 		}
 	}
 
-	// A person of the age 30, named "abc", with a friend and two scores; and messages that are wrong, each in a way.
+	// A person of age 30 named "abc", with a friend and two scores, and messages that are wrong in different ways.
 	person := stream(t, 1<<32|3<<48, 30^18, 8|1|2<<32|4<<35, 8|1|7<<32|1<<35,
 		16|1|3<<32|2<<35, 0x636261, 4|1<<48, 1|2<<32|4<<35, 0x7a7978, 0x00050003)
 	null, outside, other := stream(t, 0), stream(t, 1<<32), stream(t, 1<<32|1<<48, 0, 0xfffffffc)
@@ -296,7 +296,7 @@ func TestPage(t *testing.T) {
 		t.Error(got)
 	}
 
-	// What is signed, and envelopes of it.
+	// The signed messages, and their envelopes.
 	text := func(text string) *item {
 		list := &item{kind: 'l', code: 2, count: len(text), words: make([]uint64, (len(text)+7)/8)}
 		for i := 0; i < len(text); i++ {

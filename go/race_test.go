@@ -2,5 +2,5 @@
 
 package capn
 
-// isRace says whether the race detector watches the tests.
+// isRace is whether the race detector watches the tests.
 const isRace = true

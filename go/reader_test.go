@@ -85,7 +85,7 @@ func TestMessages(t *testing.T) {
 	}
 }
 
-// The offset is where the next message begins, or the one that is refused.
+// The offset is where the next message begins. After an error, it is where the rejected message begins.
 func TestOffset(t *testing.T) {
 	for _, isPacked := range []bool{false, true} {
 		data := append(append(append([]byte{}, small...), small[:4]...), 1, 0, 0, 0, 0, 0, 0, 0, 0, 0, 0, 0)
@@ -116,7 +116,7 @@ func TestOffset(t *testing.T) {
 	}
 }
 
-// A message is answered as soon as it is there, and no byte after it is read.
+// A message is returned as soon as it is complete, and no byte after it is read.
 func TestConnection(t *testing.T) {
 	near, far := net.Pipe()
 	defer near.Close()
@@ -137,7 +137,7 @@ func TestConnection(t *testing.T) {
 	}
 }
 
-// After an error that is not the end, such as a timeout, no byte is lost.
+// After an error such as a timeout, which isn't the end of the stream, no byte is lost.
 func TestTimeout(t *testing.T) {
 	near, far := net.Pipe()
 	defer near.Close()
@@ -189,7 +189,7 @@ func TestRefusedStream(t *testing.T) {
 	}
 }
 
-// A table announces 64 MiB, and little comes: memory grows with what comes.
+// A segment table announces 64 MiB, and few bytes come. Memory grows only with the bytes that come.
 func TestAnnounced(t *testing.T) {
 	head := append([]byte{0, 0, 0, 0}, 0, 0, 0x80, 0)
 	reader := NewReader(io.MultiReader(bytes.NewReader(head), bytes.NewReader(make([]byte, 100000))), nil)
@@ -215,7 +215,7 @@ func TestNoProgress(t *testing.T) {
 	}
 }
 
-// each are both kinds of readers of some messages.
+// each returns both kinds of readers over some messages.
 func each(t *testing.T, messages ...[]byte) map[string]func() *Reader {
 	t.Helper()
 	whole := bytes.Join(messages, nil)
@@ -226,7 +226,7 @@ func each(t *testing.T, messages ...[]byte) map[string]func() *Reader {
 	}
 }
 
-// After a message that a call rejects comes the next one, and each error has the place of its message.
+// After a message that a call rejects, the next message comes. Each error has the place of its message.
 func TestKeepGoing(t *testing.T) {
 	outside := stream(t, 1<<32)
 	deep := stream(t, 1<<48, 1<<48, 1<<48, 0)
@@ -257,7 +257,7 @@ func TestKeepGoing(t *testing.T) {
 			t.Errorf("%s: %x", name, digests)
 		}
 	}
-	// An error keeps what it is, and is not changed.
+	// Locate returns an error of the same kind, and doesn't change the error that it gets.
 	r := NewReader(bytes.NewReader(small), nil)
 	if _, err := r.Next(); err != nil {
 		t.Fatal(err)
@@ -271,7 +271,7 @@ func TestKeepGoing(t *testing.T) {
 	}
 }
 
-// A damaged table ends the stream: nothing says where the next message would begin.
+// An invalid segment table ends the stream, because nothing says where the next message begins.
 func TestDamagedTable(t *testing.T) {
 	for name, reader := range each(t, small, bare(1<<63), small) {
 		r := reader()
@@ -287,7 +287,7 @@ func TestDamagedTable(t *testing.T) {
 	}
 }
 
-// waiting is a reader that waits in Read until it is let go.
+// waiting is a reader that waits in Read until the test releases it.
 type waiting struct {
 	from          io.Reader
 	isHere, letGo chan struct{}
@@ -299,7 +299,7 @@ func (w *waiting) Read(p []byte) (int, error) {
 	return w.from.Read(p)
 }
 
-// A second Next while one runs is an error, and takes nothing from the stream.
+// A second Next while another one runs is an error, and takes nothing from the stream.
 func TestConcurrent(t *testing.T) {
 	from := &waiting{bytes.NewReader(bytes.Repeat(small, 2)), make(chan struct{}), make(chan struct{})}
 	r := NewReader(from, nil)
@@ -329,7 +329,7 @@ func TestConcurrent(t *testing.T) {
 	}
 }
 
-// Many goroutines share a reader: each message comes once or not at all, and no call sees another one's state.
+// Many goroutines share a reader. Each message comes at most once, and no call sees another call's state.
 func TestSharedReader(t *testing.T) {
 	const count = 2000
 	var messages [][]byte
@@ -378,7 +378,7 @@ func TestSharedReader(t *testing.T) {
 	}
 }
 
-// lying is a reader that says once that it read an impossible number of bytes.
+// lying is a reader that once returns an impossible number of bytes.
 type lying struct {
 	from   io.Reader
 	after  int // calls that tell the truth
@@ -394,8 +394,8 @@ func (l *lying) Read(p []byte) (int, error) {
 	return l.from.Read(p)
 }
 
-// An io.Reader that says that it read less than nothing, or more than it had room for, ends the stream: no message that
-// nobody sent comes of it.
+// An io.Reader may return a negative number, or more than the length of its buffer. This ends the stream, and no
+// message comes that nobody sent.
 func TestImpossibleCount(t *testing.T) {
 	long := append(bare(1000<<32), make([]byte, 8000)...)
 	for _, isPacked := range []bool{false, true} {
@@ -424,7 +424,8 @@ func TestImpossibleCount(t *testing.T) {
 	}
 }
 
-// An error of the reader below that is a refusal itself, as of another stream, is an error of reading.
+// The reader below may return an error that is itself a rejection, such as that of another stream. This is an error of
+// reading.
 func TestErrorOfAnotherStream(t *testing.T) {
 	other := &Error{Kind: ErrRange, Message: 7}
 	r := NewReader(io.MultiReader(bytes.NewReader(small[:9]), iotest.ErrReader(other)), nil)

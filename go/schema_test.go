@@ -19,7 +19,8 @@ func rootOf(t *testing.T, words ...uint64) Value {
 	return index.Root()
 }
 
-// Lists of two elements, each kind, the last three of structs: of none, of a word, and of a pointer.
+// lists returns a list of two elements of each kind. The last three are lists of structs: without words, with a word,
+// and with a pointer.
 func lists(t *testing.T) []Value {
 	var found []Value
 	for code := uint64(0); code < 7; code++ {
@@ -29,7 +30,7 @@ func lists(t *testing.T) []Value {
 		rootOf(t, 1|7<<32|2<<35, 8|1<<32, 0, 0), rootOf(t, 1|7<<32|2<<35, 8|1<<48, 0, 0))
 }
 
-// Each kind of list in place of each, as tests of the other languages have it.
+// Reads each kind of list in place of each other kind, as tests of the other languages do.
 func TestListsInPlaceOfOthers(t *testing.T) {
 	all := lists(t)
 	for _, one := range []struct {
@@ -80,7 +81,7 @@ func counted(numbers Numbers, err error) (int, error) {
 	return numbers.Len(), err
 }
 
-// read reads each item, and as many fields and slots as it may have; how many there were.
+// read reads each item with its fields and pointers, and returns the number of items.
 func read(items Items, err error) (int, error) {
 	all, count := items.Len(), 0
 	for items.Next() {
@@ -97,10 +98,10 @@ func read(items Items, err error) (int, error) {
 	return count, err
 }
 
-// What a newer schema's structs have in place of numbers and pointers, and older numbers and pointers in place of
-// structs.
+// In place of numbers and pointers, a newer schema may have structs. In place of structs, an older schema may have
+// numbers and pointers.
 func TestOlderAndNewer(t *testing.T) {
-	// Two structs of a word and a pointer: 0x01020304 and "a", 9 and null.
+	// Two structs of a word and a pointer. The first has 0x01020304 and "a", and the second has 9 and null.
 	text := []uint64{1 | 7<<32 | 4<<35, 8 | 1<<32 | 1<<48, 0x01020304, 8 | 1 | 2<<32 | 2<<35, 9, 0, 'a'}
 	newer := rootOf(t, text...)
 	for bits, want := range map[int]string{8: "4 9", 16: "772 9", 32: "16909060 9", 64: "16909060 9"} {
@@ -145,7 +146,7 @@ func TestOlderAndNewer(t *testing.T) {
 			t.Errorf("%v: %s, not %s", one.value.Kind(), got, one.want)
 		}
 	}
-	// The pointers of an older schema, of which the second has something below it.
+	// The pointers of an older schema. The second one refers to a struct that has a pointer.
 	older := rootOf(t, 1|6<<32|3<<35, 0, 4|1<<48, 8|1|2<<32|2<<35, 1|2<<32|2<<35, 'x', 'b')
 	rows, err := older.AsRows()
 	var kinds []ValueKind
@@ -157,8 +158,8 @@ func TestOlderAndNewer(t *testing.T) {
 	}
 }
 
-// Equal values read alike: a list of two structs of a word of zeros, or of a null pointer, has the same canonical bytes
-// as two structs of no words. A schema from before the list was upgraded has numbers or pointers there.
+// Equal values give equal results. A list of two structs of a zero word, or of a null pointer, has the same canonical
+// bytes as a list of two structs without words. A reader with an older schema reads numbers or pointers there.
 func TestStructsOfNoWords(t *testing.T) {
 	word := stream(t, 1<<48, 1|7<<32|2<<35, 2<<2|1<<32, 0, 0)
 	pointer := stream(t, 1<<48, 1|7<<32|2<<35, 2<<2|1<<48, 0, 0)
@@ -229,7 +230,7 @@ func TestAsOthers(t *testing.T) {
 	}
 }
 
-// Whatever kind and length a message has there, At doesn't panic.
+// At doesn't panic, whatever kind and length a message has there.
 func TestAtOfAnyKind(t *testing.T) {
 	values := append(lists(t), Value{}, rootOf(t, 1<<32, 5), rootOf(t, 1<<48, 3|7<<32).Slot(0))
 	for _, value := range values {
@@ -257,7 +258,8 @@ func TestAtOfAnyKind(t *testing.T) {
 	}
 }
 
-// A list of structs without fields takes a word, however many there are. To read it takes no memory for them.
+// A list of structs without fields takes one word, however many structs it has. Reading it must not allocate memory for
+// them.
 func TestManyRows(t *testing.T) {
 	const count = 8388000
 	root := rootOf(t, 1|7<<32, count<<2)

@@ -11,13 +11,13 @@ import (
 	"testing"
 )
 
-// Five thousand values that are laid out in two to five segments are hashed from their segments, and have the canonical
-// bytes that the reference implementation's program writes of them.
+// Five thousand values are laid out in two to five segments. Their digests are computed from these segments. Their
+// canonical bytes must equal those that the reference implementation's program writes.
 func TestSegments(t *testing.T) {
 	source := rand.New(rand.NewSource(66))
 	var stream, canonical []byte
 	for i := 0; i < 5000; i++ {
-		// The root is a struct, as the program wants it.
+		// The root is a struct, because the program requires one.
 		root := &item{kind: 's', words: randomWords(source, 1), below: []*item{randomItem(source, 1), randomItem(source, 1)}}
 		segments := bytesOf(segmentsOf(source, root, 2+source.Intn(4)))
 		found, err := CanonicalSegments(segments, nil)

@@ -17,8 +17,8 @@ import (
 	"testing"
 )
 
-// The cases that a call answers, of packed streams that are hashed those of one message, and what their answers have
-// that a call doesn't report.
+// The patterns of cases that a call answers, and of the parts of answers that a call doesn't report. Of the packed
+// streams that are hashed, only those of one message are taken.
 var (
 	calls        = regexp.MustCompile(`^(plain )?(canonicalise|is_canonical|survey|pack|unpack) `)
 	hashes       = regexp.MustCompile(`^run [0-9]+ hash --form (bare|stream) [^-]`)
@@ -50,7 +50,7 @@ func digits(data []byte) string {
 	return hex.EncodeToString(data)
 }
 
-// text is what a refusal is stored as.
+// text returns the text of an error in the form of the stored answers.
 func text(err error, ofPacking bool) string {
 	var refused *Error
 	if !errors.As(err, &refused) {
@@ -64,7 +64,7 @@ func text(err error, ofPacking bool) string {
 
 var forms = map[string]Form{"stream": Stream, "packed": Packed, "bare": Bare}
 
-// answer is what a call answers, written as the stored answers are.
+// answer makes a call, and returns its result in the form of the stored answers.
 func answer(line string) string {
 	words := strings.Fields(line)
 	limits := UsualLimits()
@@ -119,7 +119,8 @@ func answer(line string) string {
 	return fmt.Sprintf("paid %d, %s", checked.Paid, digits(canonical))
 }
 
-// hashed is how `capn hash` ends, and what it writes: a line for each message, until one is refused.
+// hashed returns the status and the output of `capn hash`. The output has a line for each message, up to the first that
+// is rejected.
 func hashed(data []byte, form Form) string {
 	var lines strings.Builder
 	ended := func(err error) string {
@@ -173,8 +174,8 @@ func TestStored(t *testing.T) {
 	}
 }
 
-// Ten thousand generated messages, many of them hostile, are answered as the library answers them in C: CAPN_VECTORS
-// names the program that tests/c/vectors.c is.
+// For ten thousand generated messages, many of them hostile, each call returns what the library returns in C.
+// CAPN_VECTORS names the program tests/c/vectors.c.
 func TestGenerated(t *testing.T) {
 	program := os.Getenv("CAPN_VECTORS")
 	if program == "" {

@@ -37,9 +37,10 @@ func packed(t *testing.T, words []byte) []byte {
 }
 
 func TestIsCanonicalMessage(t *testing.T) {
-	// A struct of two words, 5 and 0, and a word to which nothing leads; and its canonical bytes.
+	// A struct of two words, 5 and 0, followed by a word that no pointer refers to, and the canonical bytes of this
+	// message.
 	loose, tight := stream(t, 2<<32, 5, 0, 9), stream(t, 1<<32, 5)
-	// Read as words, a table and its segment are a struct of data; the earlier call reads them so.
+	// Read as words, a segment table and its segment are a struct of data. The earlier call reads them like this.
 	for _, call := range []func([]byte, *Limits) (bool, error){IsCanonicalWords, IsCanonical} {
 		for _, one := range []struct {
 			words []byte
@@ -91,7 +92,7 @@ func TestIsCanonicalMessage(t *testing.T) {
 }
 
 func TestRefusalWay(t *testing.T) {
-	// A list of two structs of a pointer each, of which the second leads past the end.
+	// A list of two structs with a pointer each. The second pointer leads past the end.
 	outside := stream(t, 1|7<<32|2<<35, 8|1<<48, 0, 1|2<<32|99<<35)
 	for form, message := range map[Form][]byte{
 		Stream: outside, Packed: packed(t, outside), Bare: outside[8:],
@@ -107,7 +108,7 @@ func TestRefusalWay(t *testing.T) {
 	if way, err := RefusalWay(bare(1<<32), Bare, nil); !errors.Is(err, ErrRange) || way == nil || way.String() != "root" {
 		t.Error(way, err)
 	}
-	// No walk refuses these.
+	// No traversal rejects these messages.
 	if way, err := RefusalWay(small, Stream, nil); err != nil || way != nil || way.String() != "none" {
 		t.Error(way, err)
 	}
@@ -122,7 +123,7 @@ func TestRefusalWay(t *testing.T) {
 			t.Error(err)
 		}
 	}
-	// As long as a way may be: two numbers for each level.
+	// A path of the greatest length: two numbers for each level.
 	var deep []uint64
 	for i := 0; i < maxDepth; i++ {
 		deep = append(deep, 1|7<<32|1<<35, 4|1<<48)
@@ -173,7 +174,7 @@ func TestFindDeparture(t *testing.T) {
 	}
 }
 
-// said are the lines of an explanation by what comes before their colons.
+// said returns the lines of an explanation by their keys, which stand before the colons.
 func said(text string) map[string]string {
 	found := map[string]string{}
 	for _, line := range strings.Split(text, "\n") {
@@ -184,7 +185,7 @@ func said(text string) map[string]string {
 	return found
 }
 
-// What is stored that the program explains.
+// Compares the stored explanations of the program.
 func TestStoredWays(t *testing.T) {
 	inputs, outputs := storedLines(t, "stdin"), storedLines(t, "stdout")
 	ways, departures := 0, 0
@@ -221,7 +222,7 @@ func TestStoredWays(t *testing.T) {
 		if wanted["way"] == "" && wanted["canonical"] == "" {
 			continue
 		}
-		// The message that it is of, as it stands and packed.
+		// The message that the explanation is about, as it stands and packed.
 		messages, offset := map[Form][]byte{form: data}, uint64(0)
 		if form != Bare {
 			reader := NewReader(bytes.NewReader(data), &limits)
@@ -265,8 +266,8 @@ func TestStoredWays(t *testing.T) {
 	}
 }
 
-// Ways and departures of generated messages are those that C answers: CAPN_WAYS names the program that tests/c/ways.c
-// is.
+// The paths and the first differences of generated messages must be those that C returns. CAPN_WAYS names the program
+// tests/c/ways.c.
 func TestGeneratedWays(t *testing.T) {
 	program := os.Getenv("CAPN_WAYS")
 	if program == "" {
@@ -320,7 +321,7 @@ func TestGeneratedWays(t *testing.T) {
 	}
 }
 
-// wayOrDeparture is what tests/c/ways.c says of a message, and its kind.
+// wayOrDeparture returns the kind of a message, and the line that tests/c/ways.c prints for it.
 func wayOrDeparture(t *testing.T, message []byte, form Form, limits *Limits) (string, string) {
 	way, err := RefusalWay(message, form, limits)
 	switch {

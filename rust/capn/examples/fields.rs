@@ -1,4 +1,4 @@
-//! The fields of `tests/c/fields.capnp`, by `capn`.
+//! Reads the fields of `tests/c/fields.capnp` with `capn`.
 //!
 //! Each message of a stream is shown as the generated code of the reference implementation shows it.
 //!
@@ -12,7 +12,7 @@ fn hexadecimal(bytes: &[u8]) -> String {
     bytes.iter().map(|byte| format!("{byte:02x}")).collect()
 }
 
-/// A text, or what the schema says of an absent one.
+/// Returns a text, or the schema's default if the text is absent.
 fn text(of: &Struct, slot: u32, default: &str) -> Result<String, Error> {
     let text = of.slot(slot).as_text()?.unwrap_or(default);
     Ok(hexadecimal(text.as_bytes()))
@@ -104,7 +104,7 @@ fn shown(message: &[u8], is_new: bool) -> Result<String, Error> {
     Ok(out)
 }
 
-/// Fields and slots of a struct, within it and beyond.
+/// Reads fields and pointers of a struct, inside the struct and beyond its end.
 fn read_struct(of: &Struct) -> u64 {
     let mut sum = 0;
     for at in 0..8 * of.data().len() as u32 + 130 {
@@ -115,7 +115,7 @@ fn read_struct(of: &Struct) -> u64 {
     sum
 }
 
-/// How many things a pointer and those below it are taken for, and how many they are.
+/// Counts how many readings succeed for a pointer and the pointers below it, and how many pointers these are.
 fn read_any(value: &Value, read: &mut u64, pointers: &mut u64) {
     fn numbers<T: Number>(value: &Value) -> u64 {
         value
@@ -125,7 +125,7 @@ fn read_any(value: &Value, read: &mut u64, pointers: &mut u64) {
     *pointers += 1;
     *read += u64::from(value.as_struct().map(|it| read_struct(&it)).is_ok());
     *read += u64::from(value.as_text_bytes().is_ok()) + u64::from(value.as_data().is_ok());
-    // A list without size is one of structs, and of nothing else.
+    // A list of elements without size can only be read as a list of structs.
     *read += u64::from(matches!(
         value,
         Value::Null | Value::Void(_) | Value::Rows(_)
@@ -165,7 +165,7 @@ fn any(stream: &[u8]) -> Result<String, Error> {
     Ok(format!("{messages} messages, {pointers} pointers, {read}"))
 }
 
-/// A sum over numbers: FNV-1a, with numbers of 64 bits in place of bytes.
+/// A sum over numbers: FNV-1a over numbers of 64 bits instead of bytes.
 struct Sum(u64);
 
 impl Sum {
@@ -179,7 +179,7 @@ impl Sum {
         self.0 = (self.0 ^ number).wrapping_mul(0x0100_0000_01b3);
     }
 
-    /// The fields of one width, of which field `i` has the default `i + 1`, or with a sign `-(i + 1)`.
+    /// Adds the fields of one width. Field `i` has the default `i + 1`, or `-(i + 1)` if it is signed.
     fn add_fields<T: Number>(
         &mut self,
         of: &Struct,
@@ -190,7 +190,8 @@ impl Sum {
         (0..256 / width).for_each(|i| self.add(number(of.get(i * width, default(i.into())))));
     }
 
-    /// What a struct has: bits, fields of each width, how many pointers, and the kinds of its first ones.
+    /// Adds the numbers of a struct: bits, fields of each width, the number of pointers, and the kinds of the first
+    /// ones.
     fn add_struct(&mut self, of: &Struct) {
         (0..256)
             .step_by(5)
@@ -208,7 +209,7 @@ impl Sum {
     }
 }
 
-/// The number of a kind in `capn.h`.
+/// Returns the number of a kind in `capn.h`.
 fn kind(value: &Value) -> u64 {
     const KINDS: [&str; 11] = [
         "null",
@@ -231,7 +232,7 @@ fn kind(value: &Value) -> u64 {
 const MOST_NUMBERS: usize = 1000;
 const MOST_ROWS: usize = 20;
 
-/// The kind of a pointer, and what it is read as, a part for each.
+/// Returns the kind of a pointer, and a part for each way to read it.
 fn line(value: &Value) -> String {
     fn part<T, E>(read: Result<T, E>, sum: impl FnOnce(T) -> Sum) -> String {
         read.map_or_else(|_| " -".into(), |it| format!(" {:016x}", sum(it).0))
@@ -256,7 +257,7 @@ fn line(value: &Value) -> String {
     });
     line += &bytes(value.as_text_bytes(), b"none");
     line += &bytes(value.as_data(), b"");
-    // A list without size is one of structs, and of nothing else.
+    // A list of elements without size can only be read as a list of structs.
     line += &match value {
         Value::Null | Value::Void(_) | Value::Rows(_) => {
             part(value.as_rows(), |all| Sum::of([all.len() as u64]))
@@ -279,7 +280,7 @@ fn line(value: &Value) -> String {
     line
 }
 
-/// The lines of a pointer and of those below it, in preorder.
+/// Writes the line of a pointer and the lines of all pointers below it, in preorder.
 fn lines(value: &Value, out: &mut impl Write) -> io::Result<()> {
     writeln!(out, "{}", line(value))?;
     match value {

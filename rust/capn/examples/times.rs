@@ -1,7 +1,7 @@
-//! The time of each call, beside C's.
+//! Compares the time of each call with the time of the same call in C.
 //!
-//! `times MOST` fails if a call takes more than MOST times as long as the calls of `capn.h` that it makes: the shortest
-//! of many rounds, in which both take turns.
+//! `times MOST` fails if a call takes more than MOST times as long as the calls of `capn.h` that it makes. It compares
+//! the shortest times of many rounds, in which both take turns.
 use capn::{Form, Index, Limits};
 use capn_sys::{capn_entry, capn_figures, capn_limits, capn_report};
 use std::time::Instant;
@@ -39,7 +39,7 @@ mod direct {
         figures.depth
     }
 
-    /// Into a buffer that is at hand.
+    /// Writes into a buffer that exists already.
     pub fn canonical_into(m: &[u8], out: &mut Vec<u8>) -> u64 {
         let mut report = capn_report::default();
         let (at, room) = (out.as_mut_ptr(), out.capacity());
@@ -48,7 +48,7 @@ mod direct {
         report.length
     }
 
-    /// With no room, and then with as much as is enough.
+    /// Calls with an empty buffer, and then with a buffer that is large enough.
     pub fn canonical(m: &[u8]) -> Vec<u8> {
         let mut report = capn_report::default();
         let (bytes, size) = (m.as_ptr(), m.len());
@@ -89,13 +89,13 @@ mod direct {
     }
 }
 
-/// Takes an answer, so that its call is not left out.
+/// Uses a result, so that the compiler keeps its call.
 fn keep<T>(answer: T) {
     let at: *const T = &answer;
     unsafe { std::ptr::read_volatile(at.cast::<u8>()) };
 }
 
-/// Compares the two, and answers whether ours is within the bound.
+/// Compares the times of two calls, and records whether ours is above the bound.
 struct Times {
     most: f64,
     failed: bool,
@@ -119,7 +119,8 @@ impl Times {
     ) {
         let times = 1 + (2e5 / (1000.0 + Self::once(3, &mut c))) as u32;
         let (mut least, mut least_ours) = (f64::MAX, f64::MAX);
-        // Short rounds, so that many are not interrupted, and more of them as long as they say too much.
+        // The rounds are short, so most of them are not interrupted. More rounds are run while the times are above the
+        // bound.
         for attempt in 0..20 {
             if attempt > 0 && least_ours <= self.most * least {
                 break;
@@ -137,7 +138,8 @@ impl Times {
     }
 }
 
-/// A message of a list of so many rows, each of a word and a pointer to a text of 8 bytes; or of a list of bytes.
+/// Returns a message of a list of structs, or of a list of bytes. Each struct has a word and a pointer to a text of 8
+/// bytes.
 fn message_of(rows: u64, bytes: u64) -> Vec<u8> {
     let mut words = Vec::new();
     if bytes > 0 {

@@ -1,7 +1,7 @@
-//! Answers of `capn` to the calls of standard input.
+//! Answers the calls of standard input with `capn`.
 //!
-//! They are written as the stored answers of the project are. What it answers of a stream it answers of its segments
-//! too.
+//! The answers have the form of the project's stored answers. Each call on a stream must give the same answer for the
+//! stream's segments.
 use capn::{segments, Error, Form, Limits, Tariff};
 
 fn digits(bytes: &[u8]) -> String {
@@ -24,7 +24,7 @@ fn form_of(word: &str) -> Form {
     }
 }
 
-/// The text of a refusal; the calls of packing say nothing of a form.
+/// Returns the text of an error. Errors of packing name no form.
 fn refusal(error: Error, of_packing: bool) -> String {
     let text = error.to_string();
     let bare = text
@@ -58,7 +58,7 @@ fn hashed(form: Form, data: &[u8]) -> String {
     format!("status 0, {}", digits(lines.as_bytes()))
 }
 
-/// The segments of a stream whose table is right.
+/// Returns the segments of a stream with a valid segment table.
 fn segments_of(stream: &[u8]) -> Vec<&[u8]> {
     let number =
         |at: usize| u32::from_le_bytes(stream[at..at + 4].try_into().expect("four bytes")) as usize;

@@ -1,7 +1,7 @@
-//! Where the walk of a message stops, or where it leaves its canonical bytes.
+//! Prints the path to an error of a message, or the first difference from its canonical bytes.
 //!
-//! It answers each call of standard input that has limits, in the words of `tests/c/ways.c`: a line each, `?` where the
-//! bytes are no one message.
+//! It answers each call of standard input that has limits, as `tests/c/ways.c` does. Each answer is a line, and is `?`
+//! if the bytes aren't one message.
 use capn::{Departure, Form, Kind, Limits, Owner, Tariff};
 
 fn bytes_of(digits: &str) -> Vec<u8> {
@@ -9,7 +9,7 @@ fn bytes_of(digits: &str) -> Vec<u8> {
     (0..digits.len() / 2).map(|at| byte(2 * at)).collect()
 }
 
-/// A word by its bytes, in the order in which they lie.
+/// Returns a word as its bytes, in the order in which they lie.
 fn digits(word: u64) -> String {
     format!("{:016x}", word.swap_bytes())
 }
@@ -35,7 +35,7 @@ fn told(departure: Option<Departure>) -> String {
     }
 }
 
-/// What is told of a call; none of one without limits.
+/// Returns the answer to a call, or nothing if the call has no limits.
 fn answer(line: &str) -> Option<String> {
     let mut words: Vec<&str> = line.split_whitespace().collect();
     let mut limits = Limits::usual();

@@ -1,4 +1,4 @@
-//! The calls by hand.
+//! Tests the calls on messages that are written by hand.
 use capn::{
     segments, Error, Form, Index, Kind, Limit, Limits, Place, ReadError, Reader, SameError,
     ScratchError, Style, Tariff, Value, Which,
@@ -9,7 +9,7 @@ use std::os::unix::net::UnixStream;
 
 const USUAL: Limits = Limits::usual();
 
-/// What may be sent to other threads and shared with them.
+/// Types that can be sent to other threads and shared with them.
 #[test]
 fn all_types_are_for_any_thread() {
     fn is_shared<T: Send + Sync>() {}
@@ -93,7 +93,7 @@ fn canonical_bytes_with_scratch() {
             Err(ScratchError::NoRoom(16))
         );
     }
-    // A table of 65 segments, of which the first has a word.
+    // A table of 65 segments. Only the first segment has a word.
     let mut many = words(&[64 | 1 << 32]);
     many.resize(4 + 4 * 65 + 8, 0);
     assert_eq!(into(&many, Form::Stream, 63, 8), no_scratch(64));
@@ -158,7 +158,7 @@ fn a_message_is_shown() {
     assert_eq!(shown(&one(), Form::Stream, Style::Lines), five);
     assert_eq!(shown(&packed, Form::Packed, Style::Lines), five);
     assert_eq!(shown(&one()[8..], Form::Bare, Style::Text), five);
-    // Longer than the room that is tried first.
+    // This dump is longer than the buffer that is tried first.
     let mut bits = words(&[1 | 1 << 32 | 64_000 << 35]);
     bits.resize(8008, 0xff);
     assert_eq!(shown(&bits, Form::Bare, Style::Lines).len(), 64_018);
@@ -192,7 +192,7 @@ fn a_message_is_shown() {
     assert_eq!(refused.kind(), Some(Kind::TooDeep));
 }
 
-/// An object that three pointers lead to is written three times: the answer is longer than the message.
+/// An object with three pointers to it is written three times, so the result is longer than the message.
 #[test]
 fn a_longer_answer_is_appended() {
     let shared = framed(&[3 << 48, 8 | 1 << 32, 4 | 1 << 32, 1 << 32, 7]);
@@ -296,7 +296,7 @@ fn a_stream_in_memory() {
     assert_eq!(capn::messages(&[], USUAL).next(), None);
 }
 
-/// Gives at most so many bytes at a time, and before each of them no bytes, but an error that passes.
+/// Reads at most this many bytes at a time. Before each read, a read fails with an error that passes.
 struct Slow<'a> {
     rest: &'a [u8],
     most: usize,
@@ -359,7 +359,7 @@ fn a_reader_says_where_a_stream_is_refused() {
     assert!(Reader::new(&[][..], USUAL).read().unwrap().is_none());
 }
 
-/// The peer waits for an answer to each message; what follows the messages is left in the socket.
+/// The peer waits for a reply to each message. The bytes after the messages stay in the socket.
 #[test]
 fn a_reader_of_a_socket_takes_no_byte_too_many() {
     let (mut peer, socket) = UnixStream::pair().unwrap();
@@ -404,7 +404,7 @@ fn segments_at_any_address() {
 
 #[test]
 fn fields_with_defaults_and_newer_lists() {
-    // A word, a text, and rows of a newer writer in place of numbers.
+    // A word, a text, and structs of a newer writer in place of numbers.
     let message = framed(&[
         1 << 32 | 3 << 48,
         5 ^ 7,
@@ -455,7 +455,7 @@ fn fields_with_defaults_and_newer_lists() {
     assert_eq!(format!("{:?}", index.root()), "struct 8 bytes, 3 slots");
 }
 
-/// The kinds of lists, each in place of each.
+/// Each kind of list in place of each other kind.
 #[test]
 fn lists_in_place_of_others() {
     let list = |width: u64| words(&[1 | width << 32 | 2 << 35, 0, 0]);
@@ -519,8 +519,8 @@ fn lists_in_place_of_others() {
     assert_eq!(taken(|it| Some(it.as_rows().ok()?.count())), "1.11111111");
 }
 
-/// A list of two structs of a zero word each, and its canonical bytes: structs of no words. A type from before the list
-/// had structs reads numbers, or pointers.
+/// A list of two structs of a zero word each, and its canonical bytes, which have structs without words. With a type
+/// from before the list had structs, numbers or pointers are read.
 #[test]
 fn structs_without_words_are_zeros_and_nulls() {
     let stored = words(&[1 << 48, 1 | 0x17 << 32, 8 | 1 << 32, 0, 0]);
@@ -541,10 +541,10 @@ fn structs_without_words_are_zeros_and_nulls() {
         assert_eq!(list.as_list::<u16>().unwrap().get(2), None);
         let pointers = list.as_pointers().unwrap();
         assert!(pointers.len() == 2 && pointers.into_iter().all(|it| it.is_null()));
-        // A list of bits is only ever one of bits.
+        // Only a list of bits can be read as bits.
         assert!(list.as_list::<bool>().is_err());
     }
-    // Structs of a pointer each, to a text: no number is read out of a pointer.
+    // Structs with only a pointer to a text. No number is read out of a pointer.
     let texts = words(&[
         1 | 0x17 << 32,
         8 | 1 << 48,
@@ -561,7 +561,7 @@ fn structs_without_words_are_zeros_and_nulls() {
         .eq([Some("aaa"), Some("bbb")]));
 }
 
-/// `List(UInt8)` of an older writer, read as structs of a wider field: the field is absent.
+/// A `List(UInt8)` of an older writer is read as structs with a wider field. The field is absent.
 #[test]
 fn a_field_wider_than_the_element_of_an_older_list_has_its_default() {
     let message = words(&[1 << 48, 1 | (2 | 1 << 3) << 32, 5]);
@@ -577,7 +577,7 @@ fn a_field_wider_than_the_element_of_an_older_list_has_its_default() {
     assert!(row.slot(0).is_null() && rows.next().is_none());
 }
 
-/// A text is borrowed from the message, and its index may end before it.
+/// A text is borrowed from the message, so its index may be dropped first.
 #[test]
 fn a_text_outlives_its_index() {
     fn parts(message: &[u8]) -> Result<(&str, &[u8], Vec<u16>), Error> {

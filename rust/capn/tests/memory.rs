@@ -1,7 +1,6 @@
-//! How much memory calls ask for, and how much of it is copied.
+//! Tests how much memory calls allocate, and how much of it is copied.
 //!
-//! The allocator counts what it is asked for on each thread. Its `realloc` is the one that `GlobalAlloc` has by
-//! default: it copies.
+//! The allocator counts the requests of each thread. Its `realloc` is the default of `GlobalAlloc`, which copies.
 use capn::{Form, Limits, Reader, Style};
 use std::alloc::{GlobalAlloc, Layout, System};
 use std::cell::Cell;
@@ -10,9 +9,9 @@ struct Counting;
 
 #[derive(Clone, Copy, Default)]
 struct Counts {
-    /// The largest block that was asked for.
+    /// The largest requested block.
     largest: usize,
-    /// The bytes that `realloc` copied, and how often.
+    /// How many bytes `realloc` copied, and how often it was called.
     copied: usize,
     reallocs: usize,
 }
@@ -63,7 +62,7 @@ unsafe impl GlobalAlloc for Counting {
 #[global_allocator]
 static ALLOCATOR: Counting = Counting;
 
-/// What a call asks for.
+/// Returns the result of a call, and the counts of its allocations.
 fn counted<T>(call: impl FnOnce() -> T) -> (T, Counts) {
     COUNTS.with(|cell| cell.set(Counts::default()));
     let answer = call();
@@ -82,7 +81,7 @@ fn words(words: &[u64]) -> Vec<u8> {
     words.iter().flat_map(|word| word.to_le_bytes()).collect()
 }
 
-/// A message of a list of bytes, framed.
+/// Returns a message of a list of bytes, with its segment table.
 fn bytes(count: u64) -> Vec<u8> {
     let content = 1 + (count + 7) / 8;
     let mut message = words(&[content << 32, 1 | 2 << 32 | count << 35]);
@@ -114,7 +113,7 @@ fn many_answers_are_appended_in_linear_time() {
     }
 }
 
-/// Each message is a little longer than the one before it.
+/// Each message is a little longer than the message before it.
 #[test]
 fn a_buffer_that_is_cleared_grows_by_a_factor() {
     let messages: Vec<_> = (1..2000).map(|count| bytes(8 * count)).collect();
@@ -168,7 +167,7 @@ fn no_room_is_asked_for_beyond_the_limits() {
     }
     let (told, counts) = counted(|| capn::unpack(&zeros, 16));
     assert!(told.is_err() && counts.largest <= MOST);
-    // Limits that are out of their range ask for no more.
+    // Limits that are out of range must not lead to larger allocations.
     let wrong = Limits {
         depth: u32::MAX,
         ..LOW
@@ -183,7 +182,7 @@ fn streams_ask_for_what_has_come() {
     let announced = words(&[8_000_000 << 32, 0]);
     let (told, counts) = counted(|| Reader::new(&announced[..], USUAL).read().is_err());
     assert!(told && counts.largest <= 1 << 17, "{}", counts.largest);
-    // 1 MiB of it are 2^27 messages of a null root each.
+    // 1 MiB of these bytes are 2^27 messages with a null root.
     let zeros = [0, 0xff].repeat(MIB / 2);
     let (told, counts) = counted(|| Reader::packed(&zeros[..], LOW).read().is_err());
     assert!(!told && counts.largest <= 1 << 17, "{}", counts.largest);
@@ -206,7 +205,7 @@ fn an_answer_keeps_no_more_than_twice_its_length() {
     let segments: [&[u8]; 1] = [&null[8..]];
     let canonical = capn::segments::canonical(&segments, &USUAL).unwrap();
     assert!(canonical.capacity() <= 256, "{}", canonical.capacity());
-    // A packed text of text has room for all that it may unpack to.
+    // Unpacking a message makes a buffer no larger than the message can unpack to.
     let unpacked = capn::unpack(&capn::pack(&null[..64]).unwrap(), 8).unwrap();
     assert!(unpacked.capacity() <= 128, "{}", unpacked.capacity());
 }

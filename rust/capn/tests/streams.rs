@@ -1,4 +1,5 @@
-//! Streams: what is returned after errors, where messages begin, packed ones, and inputs that are slow or wrong.
+//! Tests streams: the messages after errors, the places where messages begin, packed streams, and inputs that are slow
+//! or wrong.
 use capn::{Error, Form, IntoMessages, Kind, Limits, Place, ReadError, Reader, StreamError};
 use std::io::{self, Read, Write};
 use std::os::unix::net::UnixStream;
@@ -22,7 +23,7 @@ fn hostile() -> Vec<u8> {
     framed(&[0x1_0000_ffff_fffc])
 }
 
-/// A valid message, one that is rejected, a valid one, another that is rejected, and a damaged table.
+/// A valid message, a rejected message, a valid message, a rejected message, and an invalid table.
 fn mixed() -> (Vec<u8>, Vec<StreamError>) {
     let damaged = words(&[0xffff_ffff]);
     let stream = [one(), hostile(), one(), hostile(), damaged, one()].concat();
@@ -119,7 +120,7 @@ fn messages_that_are_kept() {
     assert_eq!(kept.unwrap(), two);
 }
 
-/// Numbers that look random.
+/// Pseudo-random numbers.
 struct Source(u64);
 
 impl Source {
@@ -134,7 +135,7 @@ impl Source {
         ((self.next() >> 11) % most) as usize
     }
 
-    /// A message of words of which many have zeros, or none.
+    /// Returns a message. Its words have many zero bytes, or none.
     fn message(&mut self) -> Vec<u8> {
         let count = [0, 1, 5, 300, 5000][self.below(5)] + self.below(20);
         let kind = self.below(4);
@@ -151,7 +152,7 @@ impl Source {
     }
 }
 
-/// Gives at most so many bytes at a time, and between them errors that pass.
+/// Reads at most this many bytes at a time. Between the reads, other reads fail with errors that pass.
 struct Slow<'a> {
     rest: &'a [u8],
     most: usize,
@@ -187,7 +188,7 @@ fn a_packed_stream_is_what_was_packed() {
             left -= packed.len();
             assert_eq!(input.len(), left, "round {round}");
         }
-        // Packed as one, groups go from one message into the next one.
+        // All messages are packed together, so groups cross from one message to the next.
         for stream in [&stream, &capn::pack(&messages.concat()).unwrap()] {
             let input = Slow {
                 rest: stream,
@@ -213,7 +214,7 @@ fn a_packed_stream_is_what_was_packed() {
     }
 }
 
-/// The same stream, cut anywhere.
+/// Truncates the same stream at a random byte.
 fn cut(source: &mut Source, stream: &[u8], messages: &[Vec<u8>], packed: &[Vec<u8>]) {
     let at = source.below(stream.len() as u64 + 1);
     let (mut reader, mut end) = (Reader::packed(&stream[..at], USUAL), 0);
@@ -264,7 +265,7 @@ fn a_packed_stream_that_is_rejected() {
     let mut reader = Reader::packed(&[0x10][..], USUAL);
     let text = "message 1 at 0: packed: Cut at 0";
     assert_eq!(reader.read().unwrap_err().to_string(), text);
-    // What is used as an input of its own.
+    // `Unpacker` can also be used alone, as an input.
     let mut unpacked = Vec::new();
     let error = capn::Unpacker::new(&[1, 5, 0x10][..])
         .read_to_end(&mut unpacked)
@@ -275,7 +276,7 @@ fn a_packed_stream_that_is_rejected() {
     assert_eq!(error.place(), Some(Place::At(2)));
 }
 
-/// The peer waits for an answer to each message; what follows the messages is left in the socket.
+/// The peer waits for a reply to each message. The bytes after the messages stay in the socket.
 #[test]
 fn a_packed_reader_of_a_socket_takes_no_byte_too_many() {
     let (mut peer, socket) = UnixStream::pair().unwrap();
@@ -298,7 +299,7 @@ fn a_packed_reader_of_a_socket_takes_no_byte_too_many() {
     assert_eq!(rest, "more");
 }
 
-/// Says that it read so many bytes, whatever it was asked for.
+/// Claims to have read this many bytes more than the buffer has.
 struct Lying(usize);
 
 impl Read for Lying {
@@ -317,7 +318,7 @@ fn an_input_that_lies_ends_in_a_panic() {
     }
 }
 
-/// Panics now and then, after it has written into the buffer.
+/// Panics sometimes, after it has written into the buffer.
 struct Panicking<'a> {
     rest: &'a [u8],
     calls: usize,

@@ -1,4 +1,4 @@
-//! Where messages are refused, and where accepted ones leave their canonical bytes.
+//! Tests the paths to errors, and the first differences from the canonical bytes.
 use capn::{Departure, Form, Index, Kind, Limits, Owner, Place, Tariff};
 
 const USUAL: Limits = Limits::usual();
@@ -11,10 +11,10 @@ fn framed(content: &[u64]) -> Vec<u8> {
     [words(&[(content.len() as u64) << 32]), words(content)].concat()
 }
 
-/// A struct of two words, 5 and 0, and a word to which nothing leads. The canonical bytes have neither the zero nor
-/// that word.
+/// A struct of two words, 5 and 0, followed by a word that no pointer refers to. The canonical bytes have neither the
+/// zero nor that word.
 const LOOSE: [u64; 4] = [2 << 32, 5, 0, 9];
-/// A list of two structs of a pointer each, of which the second leads past the end.
+/// A list of two structs with a pointer each. The second pointer leads past the end.
 const OUTSIDE: [u64; 4] = [
     1 | 7 << 32 | 2 << 35,
     8 | 1 << 48,
@@ -25,7 +25,7 @@ const OUTSIDE: [u64; 4] = [
 #[test]
 fn whether_a_message_is_canonical_in_its_form() {
     let stream = framed(&LOOSE);
-    // Read bare, the table and the segment are a struct of data: the call of C has no form.
+    // Read as bare words, the table and the segment are a struct of data. The call of C has no form.
     assert_eq!(capn::is_canonical_words(&stream, &USUAL), Ok(true));
     assert_eq!(
         capn::is_canonical_message(&stream, Form::Stream, &USUAL),
@@ -56,7 +56,7 @@ fn whether_a_message_is_canonical_in_its_form() {
         Ok(true)
     );
 
-    // The same in two segments; a message that is cut; a capability, of which there are no canonical bytes.
+    // The same value in two segments, a truncated message, and a capability, which has no canonical bytes.
     let two = words(&[1 | 2 << 32, 0, 1 << 32, 5]);
     assert_eq!(
         capn::is_canonical_message(&two, Form::Stream, &USUAL),
@@ -97,7 +97,7 @@ fn the_way_to_a_refusal() {
         root.map(|way| (way.len(), way.to_string())),
         Some((0, "root".into()))
     );
-    // No walk refuses these.
+    // No traversal rejects these messages.
     assert_eq!(
         capn::refusal_way(&framed(&LOOSE), Form::Stream, &USUAL),
         Ok(None)
@@ -118,7 +118,7 @@ fn the_way_to_a_refusal() {
             Err(capn::Error::OutOfRange(capn::Limit::Depth))
         );
     }
-    // As long as a way may be: two numbers for each level.
+    // A path of the greatest length: two numbers for each level.
     let mut deep = Vec::new();
     for _ in 0..256 {
         deep.extend([1 | 7 << 32 | 1 << 35, 4 | 1 << 48]);
@@ -176,7 +176,7 @@ fn departures_by_their_kinds() {
     assert_eq!(refused.kind(), Some(Kind::Range));
 }
 
-/// A number at a bit that no schema has it at, and the text of what can't be packed.
+/// Reads a number at a bit where no schema has one, and tests the text for bytes that can't be packed.
 #[test]
 fn what_the_pages_say_of_small_things() {
     let message = words(&[1 << 32, 0x0100_0007]);
@@ -200,7 +200,7 @@ fn bytes_of(digits: &str) -> Vec<u8> {
     (0..digits.len() / 2).map(|at| byte(2 * at)).collect()
 }
 
-/// The input of a stored explanation: its form, its limits and its bytes.
+/// Returns the input of a stored explanation: its form, its limits and its bytes.
 fn input_of(call: &str) -> Option<(Form, Limits, Vec<u8>)> {
     let (run, options) = call.split_once(" explain ")?;
     if !run.starts_with("archive ") {
@@ -226,14 +226,14 @@ fn input_of(call: &str) -> Option<(Form, Limits, Vec<u8>)> {
             "--depth" => limits.depth = words.next()?.parse().ok()?,
             "--message-words" => limits.message_words = words.next()?.parse().ok()?,
             "--number" => drop(words.next()?),
-            // It explains several messages, each as without it.
+            // A run with this option explains several messages, each as a run without it does.
             "--keep-going" => return None,
             digits => return Some((form, limits, bytes_of(digits.trim_start_matches('-')))),
         }
     }
 }
 
-/// The same departure in a stream in which the message begins so far on.
+/// Returns the same difference for a message that begins at this offset in its stream.
 fn moved(departure: Departure, offset: u64) -> Departure {
     match departure {
         Departure::Word {
@@ -257,7 +257,7 @@ fn moved(departure: Departure, offset: u64) -> Departure {
     }
 }
 
-/// How many ways and departures of one stored explanation are those that are found.
+/// Compares one stored explanation. Returns how many paths and how many differences were compared.
 fn explained(line: &str) -> Option<(usize, usize)> {
     let (call, answer) = line.split_once('|')?;
     let (mut form, limits, mut data) = input_of(call)?;
@@ -297,7 +297,7 @@ fn explained(line: &str) -> Option<(usize, usize)> {
     Some((usize::from(way.is_some()), usize::from(canonical.is_some())))
 }
 
-/// What is stored that the program explains, in the file of lines `CALL|ANSWER` that `CAPN_STORED` names.
+/// Compares the stored explanations of the program. `CAPN_STORED` names a file of lines `CALL|ANSWER`.
 #[test]
 fn as_stored_explanations_say_it() {
     let name = match std::env::var_os("CAPN_STORED") {
