@@ -105,12 +105,12 @@ bench:
 # - The tests of C, C++ and Python run once more under sanitizers, and the tests of Go under the race detector.
 # - The guide's recipes and the programs of the pages are run.
 # - C++, Rust, Go and Python read 20,000 messages, valid and hostile, as C reads them.
-# The rest needs an installed reference implementation, and is skipped without it:
-# - Messages that it wrote, and pairs of messages that its builders wrote, are read.
-# - Its answers, and those of the crate capnp, to the cases of vectors/ are compared.
+# The rest needs the reference implementation, and is skipped if it isn't installed:
+# - Messages that the reference implementation wrote, and pairs of messages that its builders wrote, are read.
+# - The cases of vectors/ are answered by the reference implementation and by the crate capnp, and compared.
 # - The lines of docs/DIFFERENCES.md and the table of hostile inputs are tried.
-# - If it runs as root, all of this and the languages over the library also run in a root of Debian 13.
-# It uses the program that the gate builds, or an installed one: make interop CAPN=/usr/local/bin/capn.
+# - If make runs as root, all of this and the languages over the library also run in a root of Debian 13.
+# The tests use the program that the gate builds, or an installed one: make interop CAPN=/usr/local/bin/capn.
 interop: $(if $(CAPN),,program library)
 	./tests/c/agree
 	./tests/c/watched

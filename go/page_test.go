@@ -364,7 +364,7 @@ func TestPage(t *testing.T) {
 	}
 }
 
-// framedCanonical is the message that has the canonical bytes of one as its only segment.
+// framedCanonical returns a message that has the canonical bytes of another message as its only segment.
 func framedCanonical(t *testing.T, message []byte) []byte {
 	t.Helper()
 	canonical, err := Canonical(message, Stream, nil)

@@ -92,7 +92,7 @@ void show_message(capn::bytes message, bool is_new) {
     std::printf("\n");
 }
 
-// The numbers that are read from a pointer, as one number. It is FNV-1a over numbers of 64 bits instead of bytes.
+// A sum of the numbers that are read from a pointer: FNV-1a over numbers of 64 bits instead of bytes.
 class sum {
 public:
     void add(std::uint64_t number) { sum_ = (sum_ ^ number) * 0x100000001b3; }

@@ -33,8 +33,8 @@ template <class C, class Plus> void beside(const char *name, std::size_t size, C
     failed |= least_plus > most * least;
 }
 
-/* A message of a list of this many structs, or of a list of bytes. Each struct has a word and a pointer to a text of 8
- * bytes. */
+/* Returns a message of a list of this many structs, or of a list of bytes. Each struct has a word and a pointer to a
+ * text of 8 bytes. */
 std::vector<std::uint64_t> message_of(std::size_t rows, std::size_t bytes) {
     std::vector<std::uint64_t> words = {0};
     if (bytes) {

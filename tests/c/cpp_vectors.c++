@@ -84,7 +84,7 @@ std::string checked(const capn::checked &it, const capn_figures &figures) {
 }
 
 /* Returns the result for the bytes. If they are a stream with a valid table, the call on its segments has to return the
- * same. */
+ * same result. */
 template <class Call> std::string both(capn::bytes message, capn::form form, const capn::limits &limits, Call call) {
     const std::string told = answered([&] { return call(message, form); });
     if (form != capn::form::stream) return told;

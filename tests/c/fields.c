@@ -349,7 +349,7 @@ static int show_stream(const char *as) {
     return failed != 0;
 }
 
-/* A struct of this many words with the field `x @0 :UInt64 = 7`. Its first word is `stored`. */
+/* Reads the field `x @0 :UInt64 = 7` from a struct of this many words. Its first word is `stored`. */
 static uint64_t of_words(uint16_t words, uint64_t stored) {
     const capn_entry entry = {0, 0, 1, words, 0, CAPN_KIND_STRUCT};
     capn_record record;
@@ -367,8 +367,8 @@ static size_t message(uint8_t *to, const uint64_t *words, size_t count) {
     return 8 + 8 * count;
 }
 
-/* The only pointer of the root refers to a list of two structs. The list has the same value with and without zero
- * words. A reader with an older schema reads numbers or pointers there. */
+/* Tests a message in which the only pointer of the root refers to a list of two structs. The list has the same value
+ * with and without zero words. A reader with an older schema reads numbers or pointers there. */
 static void two_of_zeros(const uint64_t *words, size_t count) {
     uint8_t data[64];
     capn_entry all[8];

@@ -1,12 +1,12 @@
 /* Tests the index of a message that has each kind of object. The message is written by hand, without a table, in one
- * segment or in three. It lies at any address, next to pages that can't be accessed. The array has each number of
- * entries. (tests/c/fuzz.c reads the indexes of many messages.) */
+ * segment or in three. It lies at any address, next to pages that can't be accessed. The array of entries has each
+ * possible length. (tests/c/fuzz.c reads the indexes of many messages.) */
 #define TEST "index"
 #include "wanted.h"
 
 enum { COUNT = 17, WORDS = 26 };
 
-/* The pointer at `from` to the list at `to`, and the pointer at `from` to the struct at `to`. */
+/* Returns the pointer at `from` to the list at `to`, and the pointer at `from` to the struct at `to`. */
 static uint64_t list(uint64_t from, uint64_t to, uint64_t width, uint64_t count) {
     return 1 | (to - from - 1) << 2 | width << 32 | count << 35;
 }
@@ -14,9 +14,9 @@ static uint64_t object(uint64_t from, uint64_t to, uint64_t words, uint64_t slot
     return (to - from - 1) << 2 | words << 32 | slots << 48;
 }
 
-/* A struct of a word and eleven pointers, one for each kind of object. Two of the objects are a list of two pointers
- * and a list of two structs with a word and a pointer. An empty struct has no words, so its pointer refers to the place
- * of the pointer itself. */
+/* Writes a struct of a word and eleven pointers, one for each kind of object. Two of the objects are a list of two
+ * pointers and a list of two structs with a word and a pointer. An empty struct has no words, so its pointer refers to
+ * the place of the pointer itself. */
 static void make(uint64_t *w, capn_entry *e) {
     const uint64_t words[WORDS] = {
         object(0, 1, 1, 11), 7, 0, list(3, 13, 0, 9), list(4, 13, 1, 9), list(5, 14, 2, 3), list(6, 15, 3, 3),

@@ -228,7 +228,7 @@ static void announced(void) {
     want("its offset", r.at, 2);
 }
 
-/* More words than a message without a table may have. The call counts them and reads none. */
+/* Passes more words than a message without a table may have. The call counts them and reads none. */
 static void too_long(void) {
     size_t words = (1u << 28) + 2;
     capn_report r;

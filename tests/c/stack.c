@@ -30,7 +30,7 @@ static void put(size_t at, uint32_t low, uint32_t high) {
     }
 }
 
-/* The path to an object that is one level too deep, or to the object at which the traversal limit is reached. */
+/* Finds the path to an object that is one level too deep, or to the object at which the traversal limit is reached. */
 static capn_status led(uint32_t form, const uint8_t *bytes, size_t count) {
     const uint32_t most = depth > 1 ? depth - 1 : 1;
     const capn_limits limits = limits_of(1u << 28, depth > 1 ? 1u << 28 : 0, most, CAPN_PLAIN);
@@ -98,7 +98,7 @@ static void put_entry(size_t at, uint32_t number) {
     for (int i = 0; i < 4; i++) framed[4 * at + i] = (uint8_t)(number >> 8 * i);
 }
 
-/* The message in segments, and with a table. Each segment after the first has one word. */
+/* Cuts the message into segments, and writes it with a table. Each segment after the first has one word. */
 static void cut(void) {
     const size_t table = 8 * (segments / 2 + 1);
     memset(framed, 0, sizeof framed);

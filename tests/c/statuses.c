@@ -76,7 +76,7 @@ static void walks(const char *what, const uint64_t *words, size_t count, const c
     }
 }
 
-/* Errors of pointers, and a capability. */
+/* Provokes the errors of pointers, and the error of a capability. */
 static void walked(void) {
     const capn_limits shallow = limits_of(3, 100, 1, CAPN_STRICT), poor = limits_of(3, 1, 64, CAPN_STRICT);
     const uint64_t null = 0, capability = 3, reserved = 7, far = 2 | 9ull << 32, beyond = 2 | 9 << 3;
@@ -99,7 +99,7 @@ static void walked(void) {
     walks("a null root", &null, 1, &usual, CAPN_OK, 0);
 }
 
-/* Errors of packed bytes and of the segment table, with their numbers. */
+/* Provokes the errors of packed bytes and of the segment table, with their numbers. */
 static void read_as(const char *what, uint32_t form, const void *bytes, size_t size, const capn_limits *limits,
                     uint32_t wanted, uint64_t at) {
     capn_report told = each_call(what, form, bytes, size, limits, wanted);
@@ -135,8 +135,8 @@ static void reading(void) {
     want("its offset", report.at, 2);
 }
 
-/* Packed bytes that unpack to more words than one message and the longest table may have. Then more words than a
- * message without a table may have, of which the call reads none. */
+/* Passes packed bytes that unpack to more words than one message and the longest table may have. Then passes more words
+ * than a message without a table may have. The call reads none of these words. */
 static void too_long(void) {
     const capn_limits one = limits_of(1, 1, 1, CAPN_STRICT);
     uint8_t zeros[18];
@@ -152,7 +152,7 @@ static void too_long(void) {
     munmap(bytes, 8 * words);
 }
 
-/* Errors of arguments, a buffer that is too small, and bytes that aren't canonical. */
+/* Provokes the errors of arguments, of a buffer that is too small, and of bytes that aren't canonical. */
 static void called(void) {
     const uint8_t message[24] = {0, 0, 0, 0, 2, 0, 0, 0, 0, 0, 0, 0, 1, 0, 0, 0, 0};
     const capn_limits none = limits_of(0, 1, 1, CAPN_STRICT), third = limits_of(1, 1, 1, 2);

@@ -1,5 +1,5 @@
-"""What a call keeps and allocates. Tests that an exception doesn't keep the caller's buffer, how much memory a call
-uses, and in which order it examines its arguments."""
+"""Tests that an exception doesn't keep the caller's buffer, how much memory a call uses, and in which order a call
+examines its arguments."""
 import ctypes
 import gc
 import mmap

@@ -1,4 +1,4 @@
-"""Bytes that change while a call runs. The call copies them first, unless the caller promises that they don't
+"""Tests bytes that change while a call runs. The call copies them first, unless the caller promises that they don't
 change."""
 import array
 import mmap

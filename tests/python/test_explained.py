@@ -1,4 +1,4 @@
-"""The place of an error, and the first difference from the canonical form. Both are compared with a second
+"""Tests the place of an error, and the first difference from the canonical form. Both are compared with a second
 implementation of the pages, with the stored answers of the program, and with the program itself, if it is built."""
 import dataclasses
 import random

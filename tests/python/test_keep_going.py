@@ -1,5 +1,5 @@
-"""Streams with rejected messages. The messages after a rejected one are returned, and each message has its number and
-offset."""
+"""Tests streams with rejected messages. The messages after a rejected one are returned, and each message has its number
+and offset."""
 import asyncio
 import io
 import random

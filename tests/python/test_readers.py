@@ -1,4 +1,4 @@
-"""Streams over files whose `read` returns wrong results, and streams that arrive in many chunks."""
+"""Tests streams over files whose `read` returns wrong results, and streams that arrive in many chunks."""
 import asyncio
 import random
 import time

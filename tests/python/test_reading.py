@@ -1,5 +1,5 @@
-"""Messages that are read in place, streams that are read in chunks, and summaries. All are compared with the model of
-tests/program."""
+"""Tests messages that are read in place, streams that are read in chunks, and summaries. All are compared with the
+model of tests/program."""
 import io
 import random
 import struct

@@ -1,5 +1,5 @@
-"""The comparison of two messages. They have the same value in other layouts, or different values, or one of them is
-rejected."""
+"""Tests the comparison of two messages. They have the same value in other layouts, or different values, or one of them
+is rejected."""
 import copy
 import mmap
 import pickle

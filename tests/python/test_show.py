@@ -1,5 +1,5 @@
-"""The output of `capn.show` is that of the program. It is compared with the stored cases, with the model, and with the
-program itself, if the program is built."""
+"""The output of `capn.show` has to be that of the program. It is compared with the stored cases, with the model, and
+with the program itself, if the program is built."""
 import random
 import re
 import subprocess
@@ -83,8 +83,8 @@ class Shown(unittest.TestCase):
                 self.assertEqual(ran(line[1:], data), (wrote.stdout, wrote.stderr.decode(), wrote.returncode))
 
     def test_a_part_is_shown_as_the_whole_is(self):
-        # The package shows a part, and the library shows a whole message. Both give the same output for a message that
-        # was read as for its bytes.
+        # The package shows a part, and the library shows a whole message. A message object and the bytes of the message
+        # have to give the same output.
         source, shown = random.Random(9), 0
         for _ in range(1000):
             data = archives.framed(archives.segments_of(source))

@@ -22,7 +22,7 @@ from test_reading import Pieces
 from test_streams import SECONDS, SMALL, Blocking, Peeking
 
 LONG = stream(struct.pack("<IHH", 0, 600, 0) + bytes(range(1, 241)) * 20)
-# Messages of one segment, of two segments, and without words, equal messages next to each other, and a message that is
+# Messages of one segment, of two segments, and of no words; equal messages next to each other; and a message that is
 # longer than one look.
 MESSAGES = [SMALL, SMALL, stream(bytes(8), bytes(16)), stream(b""), SMALL, LONG, SMALL]
 

@@ -1,5 +1,5 @@
-"""Untrusted input. A message may have another schema or an older or a newer version of it, and a message with a segment
-table may be taken for one without. Each exception that such input causes is a `ValueError`."""
+"""Tests untrusted input. The sender of a message may use another schema, or an older or a newer version of the schema.
+A message with a segment table may be read as one without. Each exception that such input causes is a `ValueError`."""
 import unittest
 import warnings
 

@@ -1,4 +1,4 @@
-"""Streams that arrive in chunks. Tests when each message is returned, which bytes are left unread, and the state after
+"""Tests streams that arrive in chunks: when each message is returned, which bytes are left unread, and the state after
 an exception."""
 import asyncio
 import bz2
@@ -24,7 +24,7 @@ from messages import stream
 from test_reading import Pieces, archives, generated, model
 
 SMALL = bytes.fromhex("0000000003000000" "0000000002000000" "0500000000000000" "0000000000000000")
-# Messages of one segment, of two segments, and without words, and a message that is longer than a chunk.
+# A message of one segment, one of two segments, one without words, and one that is longer than a chunk.
 SHAPES = [
     SMALL,
     stream(bytes(8), bytes(16)),
@@ -479,7 +479,7 @@ class AfterAnException(unittest.TestCase):
                     self.assertRaises(StopIteration, next, found)
 
     def pipes(self):
-        """Buffered and unbuffered pipes, each with the function that packs the messages for it."""
+        """Yields buffered and unbuffered pipes, each with the function that packs the messages for it."""
         for buffering in 0, -1:
             for packed in False, True:
                 read, write = os.pipe()
@@ -678,7 +678,7 @@ class AfterAnException(unittest.TestCase):
 
 
 class Ahead(unittest.TestCase):
-    """With `read_ahead` the results are the same, and come as soon as their bytes do. The reader may take bytes that
+    """With `read_ahead`, the reader gives the same results as soon as their bytes come. It may take bytes that
     follow."""
 
     def test_the_same_answers(self):
@@ -803,8 +803,8 @@ class Splitters(unittest.TestCase):
             return little
 
         def once_of_one(call):
-            """Does the same for the call that looks at one message. This call returns a number of bytes, so 0 is a
-            failure."""
+            """Returns the call that looks at one message, except that the first call that succeeds reports that memory
+            is out. The call returns a number of bytes, so 0 is a failure."""
             def little(text, size, one):
                 taken = call(text, size, one)
                 if taken and not refusals:

@@ -1,4 +1,4 @@
-"""The declared types, at run time and for mypy. mypy also reads the programs of the page."""
+"""Tests the declared types, at run time and with mypy. mypy also reads the programs of the page."""
 import inspect
 import os
 import shutil

@@ -1,4 +1,4 @@
-"""Packed bytes that unpack to very many bytes. Tests how many of them are unpacked, and when."""
+"""Tests packed bytes that unpack to very many bytes: how many of these are unpacked, and when."""
 import io
 import random
 import tracemalloc

@@ -1,4 +1,4 @@
-"""Objects of a message: values, texts, fields with their defaults, paths, and a message that is closed."""
+"""Tests the objects of a message: values, texts, fields with their defaults, paths, and a message that is closed."""
 import array
 import copy
 import itertools

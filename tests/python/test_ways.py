@@ -1,5 +1,5 @@
-"""The place of an error, the parts of the message that a refusal keeps, and the first difference from the canonical
-form."""
+"""Tests the place of an error, the parts of the message that a refusal keeps, and the first difference from the
+canonical form."""
 import copy
 import dataclasses
 import gc
