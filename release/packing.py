@@ -84,8 +84,8 @@ def proof(commit, tree, is_clean):
 
 
 def installed(folder, prefix, libraries, *words):
-    """Runs `make install` and `make install-library` into a folder, and returns the folder. make gets these words,
-    too."""
+    """Runs `make install` and `make install-library` into a folder, and returns the folder. Also passes these words to
+    make."""
     words = [f"DESTDIR={folder}", f"PREFIX={prefix}", f"LIBDIR={libraries}", *words]
     # this make doesn't get the options of a make that runs this script, such as a prefix
     env = {key: value for key, value in os.environ.items() if not key.startswith("MAKE") and key != "MFLAGS"}

@@ -47,7 +47,7 @@ def tests_of(crate):
 
 def crates_of_calls(crate):
     """Yields each call of a crate with cases, and the libraries that its answer depends on. These are the libraries
-    that the call's module names, and those that the modules below it name."""
+    that the call's module names, and the libraries that the modules used by it name."""
     folder = os.path.join(TOP, "crates", crate, "src")
     modules = {name[:-3]: text_of("crates", crate, "src", name) for name in os.listdir(folder)}
 

@@ -173,8 +173,8 @@ def texted(text: str) -> bytes:
 
 
 def search() -> None:
-    """Searches for texts that some messages have, that no message has, and that more messages have than one list of
-    numbers holds. Also searches in archives with rejected messages."""
+    """Searches for texts that some messages have, for a text that no message has, and for a text that more messages
+    have than a list of numbers can hold. Also searches in archives with rejected messages."""
     ada, grace, without = texted("Ada"), texted('Grace "Hopper"'), canonical(5)
     Path("archive").write_bytes(ada + without + grace + ada)
     see(shell("search.sh", "archive", "0", "Ada") == (ada + ada, "", 0), "messages with Ada")

@@ -118,7 +118,7 @@ int main(void) {
         for (size_t call = 0; call < CALLS; call++)
             for (uint32_t form = 0; form < (calls[call].of_forms ? 4 : 1); form++) compare(call, form, bytes, size);
     }
-    /* Without a report, the text has no place. */
+    /* Without a report, the text doesn't say where the error is. */
     const size_t length = capn_refusal_text(CAPN_RANGE, NULL, text, sizeof text);
     want("the text without a report", strcmp(text, capn_status_text(CAPN_RANGE)), 0);
     want("its length", length, strlen(text));

@@ -250,8 +250,8 @@ class Wound(unittest.TestCase):
         yield Failing(data)
 
     def each(self, parts, run):
-        """Runs the test on each kind of file of these parts, both packed and unpacked. The test gets the bytes of each
-        part as the file has them."""
+        """Runs the test on files of each kind that contain these parts, both packed and unpacked. The test gets the
+        bytes of each part as the file has them."""
         with tempfile.TemporaryDirectory() as folder:
             for packed in False, True:
                 sent = [capn.pack(part) if packed else part for part in parts]
