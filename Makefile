@@ -30,7 +30,7 @@ PAGES := README.md LICENSE NOTICE $(wildcard docs/*.md docs/capn.[13] docs/inter
 # The headers.
 HEADERS := $(wildcard c/*.h c/*.hpp)
 # For verify-dist: FILE is a file of a release. BUILT is a clone where its commit is already built. OVER is a clone
-# where the gate passed its commit: what the gate proved there, of the crates below the program and the library, isn't
+# where the gate passed its commit. The crates below the program and the library, which the gate proved there, aren't
 # proved again.
 FILE ?= dist/*
 BUILT ?=
@@ -149,7 +149,7 @@ beside:
 
 # Links the static and the shared library. Both contain the archive, the allocator, the texts and the defaults as one
 # object, in which only the names capn_* are visible. The proved calls are named proved_capn_*, and the calls of
-# c/defaults.c pass on to them. It proves nothing, and compiles only the texts and the defaults.
+# c/defaults.c call them. This target proves nothing, and compiles only the texts and the defaults.
 linked:
 	@test -f "$(KIT)c/liblibc_c.a" || { echo "there is no rt, whose folder has the allocator in C" >&2; exit 1; }
 	@test -f crates/capn_c/out/libcapn_c.a || { echo "there is no proved archive: run make library" >&2; exit 1; }

@@ -8,11 +8,11 @@
  *
  * For a rejected message, `fields lines` prints `rejected: ` and the text of the error. For an accepted message, it
  * prints a line for each pointer, in preorder. The line has the word of the pointer's kind, and a part for each of
- * eleven readings: as a struct; as a text; as a data; as a list of elements without size; as a list of numbers of 1, 8,
+ * eleven readings: as a struct; as a text; as data; as a list of elements without size; as a list of numbers of 1, 8,
  * 16, 32 and 64 bits; as a list of pointers; and as a list of structs. A part is `-` if the pointer can't be read like
  * this. Otherwise it is a sum in hexadecimal: FNV-1a over these numbers of 64 bits:
  *   - for a struct, the numbers of a struct (see below)
- *   - for a text and a data, the length and the bytes; a null pointer has the default text `none`
+ *   - for a text and for data, the length and the bytes; a null pointer has the default text `none`
  *   - for a list without size, the length
  *   - for a list of numbers, the length, and the first thousand numbers
  *   - for a list of pointers, the length, and the numbers of the kinds of the first twenty pointers
@@ -158,7 +158,7 @@ static uint64_t read_record(const capn_record *record) {
 
 static volatile uint64_t kept; /* uses what is read, so that the compiler keeps the reads */
 
-/* Returns in how many ways an entry can be read: as a struct, as a text, as a data, and as each kind of list. */
+/* Returns in how many ways an entry can be read: as a struct, as a text, as data, and as each kind of list. */
 static int read_any(const capn_entry *entry) {
     capn_record record;
     capn_items items;

@@ -40,8 +40,8 @@ static int is_untouched(const char *out, size_t size) {
     return 1;
 }
 
-/* Returns the dump of a message, or NULL. Calls with buffers of size 0, of exactly the length, and of a byte more and
- * less. */
+/* Returns the dump of a message, or NULL. It calls capn_show with buffers of size 0, of exactly the length, and of a
+ * byte more and less. */
 static char *text_of(const struct input *in, size_t *length, capn_status *status, capn_report *report) {
     *status = show(in, NULL, 0, report);
     if (*status != CAPN_NO_ROOM) {

@@ -1,8 +1,8 @@
 """Reads each pointer of each message as every kind of object, as the programs of the other languages do.
 
     anything.py any     reads a stream. Prints how many messages are accepted, how many pointers they have, and how
-                        many readings succeed in total. A pointer is read as a struct, a text, a data, and a list of
-                        each kind.
+                        many readings succeed in total. A pointer is read as a struct, as a
+                        text, as data, and as a list of each kind.
     anything.py lines   reads the messages of tests/c/mixed.py. Prints a line for each of these pointers and for each
                         rejected message, as the head of tests/c/fields.c says.
 
@@ -56,7 +56,7 @@ def text_of(found):
 
 
 def data_of(found):
-    """Returns the bytes of a data."""
+    """Returns the bytes of an object that is read as data."""
     if found.kind not in ("null", "bytes"):
         raise capn.Mismatch(f"there is no data, but {found!r}")
     return b"" if found.kind == "null" else found[:]

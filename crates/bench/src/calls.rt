@@ -136,7 +136,7 @@ pub(crate) fn segments_of(alloc: Global, framed: &[u8]) -> Result<u32> {
     Ok(message(alloc, framed)?.segments())
 }
 
-/// Returns 1 if `bytes` are canonical, else 0.
+/// Returns 1 if `bytes` are canonical, and otherwise 0.
 pub(crate) fn told(alloc: Global, bytes: &[u8]) -> Result<u32> {
     Ok(u32::from(test(alloc, bytes)?))
 }
@@ -184,7 +184,7 @@ pub(crate) fn changed(alloc: Global, framed: &[u8]) -> Result<Vec<u8>> {
     }
 }
 
-/// Returns 1 if two framed messages have the same value, else 0.
+/// Returns 1 if two framed messages have the same value, and otherwise 0.
 pub(crate) fn compared(alloc: Global, one: &[u8], other: &[u8]) -> Result<u32> {
     match same_messages(
         &message(alloc, one)?,

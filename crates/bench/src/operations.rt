@@ -110,7 +110,7 @@ pub(crate) struct Input {
     bytes: Vec<u8>,
     /// The tree of the message.
     tree: Option<Tree>,
-    /// A second message if the operation takes two, else empty.
+    /// A second message if the operation takes two, and otherwise empty.
     other: Vec<u8>,
     /// The number of bytes by which the cost is divided. It is the size of the canonical bytes if the input begins with
     /// them, and otherwise the size of the framed message or of the stream.

@@ -3,7 +3,7 @@
 //!
 //! Canonical bytes serve to sign, hash and compare messages. The canonical bytes of two messages are equal if and only
 //! if their values are equal up to trailing zero words and trailing null pointers. A program that reads messages from
-//! strangers sets limits first. The example reports a refused message in plain words.
+//! untrusted senders sets limits first. The example reports a refused message in plain words.
 #![tactic(auto)]
 
 use anyhow::Result;
@@ -12,7 +12,7 @@ use capn_stream::read_message;
 use capn_words::Watched;
 use sha2::{Digest, Sha256};
 
-/// Returns the meaning of `refusal`, for somebody who does not know the format.
+/// Returns the meaning of `refusal`, for a user who does not know the format.
 fn in_words(refusal: &Refusal) -> &'static str {
     match refusal {
         Refusal::Bare(_) | Refusal::Packed(_) | Refusal::Frame(_) => "these bytes are no message",

@@ -146,7 +146,7 @@ impl Writing {
         Ok(())
     }
 
-    // Appends the object at the root: mostly a struct, else a list of any kind.
+    // Appends the object at the root: mostly a struct, and otherwise a list of any kind.
     fn push_root(&mut self) -> Result<Object, AllocError> {
         match self.value.below(12) {
             0 => self.push_numbers(),

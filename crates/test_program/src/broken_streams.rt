@@ -77,7 +77,7 @@ fn unwritten(alloc: Global, words: &[&str], bytes: &[u8], room: usize) -> Ending
     ended(alloc, words, input)
 }
 
-/// Returns the size of a chunk for an input of `count` bytes: 1 if `count` is even, else no limit.
+/// Returns the size of a chunk for an input of `count` bytes: 1 if `count` is even, and otherwise no limit.
 fn piece_of(count: usize) -> usize {
     if count % 2 == 0 { 1 } else { usize::MAX }
 }
