@@ -17,7 +17,8 @@ static void need(int holds, const char *what, const uint8_t *bytes, size_t size)
     abort();
 }
 
-/* Tests a message that check accepts: canonical, hash and is_canonical agree on its canonical bytes and on its cost. */
+/* Tests a message that capn_check accepts. capn_canonical, capn_hash and capn_is_canonical have to agree on its
+ * canonical bytes and on its cost. */
 static void accepted(uint32_t form, const uint8_t *bytes, size_t size, const capn_report *checked, size_t enough) {
     uint8_t *out = malloc(enough), digest[2][32];
     capn_report report;
@@ -82,7 +83,7 @@ static void entry(const capn_entry *all, size_t count, size_t i, const uint8_t *
     need(next == i + e->span, "the end of a span", bytes, size);
 }
 
-/* Survey and index must report what check reported, unless the form is packed. */
+/* capn_survey and capn_index must report what capn_check reported, unless the form is packed. */
 static void indexed(uint32_t form, const uint8_t *bytes, size_t size, capn_status check, const capn_report *checked) {
     capn_figures figures;
     capn_report report;
@@ -114,7 +115,7 @@ static void indexed(uint32_t form, const uint8_t *bytes, size_t size, capn_statu
     free(all);
 }
 
-/* The calls with paths must report what check reported. */
+/* The calls with paths must report what capn_check reported. */
 static void led(uint32_t form, const uint8_t *bytes, size_t size, capn_status check, const capn_report *checked) {
     static uint32_t way[2 * 256];
     capn_departed departed;

@@ -21,8 +21,9 @@ static void is(const char *what, capn_status status, capn_status wanted) {
     want(what, status, wanted);
 }
 
-/* Makes each call on some bytes. canonical is called with a buffer, without a buffer, and with scratch. index is left
- * out if the bytes are packed. If the value has a capability, only canonical, hash and same report it. */
+/* Makes each call on some bytes. capn_canonical is called with a buffer, without a buffer, and with scratch. capn_index
+ * is left out if the bytes are packed. If the value has a capability, only capn_canonical, capn_hash and capn_same
+ * report it. */
 static capn_report each_call(const char *what, uint32_t form, const void *bytes, size_t size, const capn_limits *limits,
                              uint32_t wanted) {
     capn_report checked, report;

@@ -31,7 +31,8 @@ static void canonicalOfPacked(capnp::ReaderOptions options) {
   canonical(in);
 }
 
-// Packs the segments as the library packs a message. They are as in the input, and its segment table has to be valid.
+// Packs the segments as the library packs a message. The segments are those of the input. Its segment table has to be
+// valid.
 static void pack() {
   auto bytes = kj::FdInputStream(STDIN_FILENO).readAllBytes();
   auto words = kj::heapArray<capnp::word>(bytes.size() / sizeof(capnp::word));
