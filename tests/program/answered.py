@@ -1,7 +1,7 @@
 #!/usr/bin/env python3
-"""Computes the results that the program has to have for a command line. It calls the function `run_COMMAND` of `model`,
-or a function of `explained`, with the options of the command as parameters. It finds the options, and those that take a
-number, in the texts of help.
+"""Computes the results that the program has to have for a command line. It calls the function `run_COMMAND` of `model`
+or `explained`, with the options of the command as parameters. It finds the options, and those that take a number, in
+the texts of help.
 
     tests/program/answered.py COMMAND [OPTION..] < INPUT
 

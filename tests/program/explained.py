@@ -223,8 +223,8 @@ def came(data, form, offset):
 
 
 def table_lines(rest):
-    """Returns the line about the segments if the table is complete and has no more than the most segments. Returns no
-    line otherwise."""
+    """Returns the line about the segments if the table is complete and announces no more segments than are allowed.
+    Returns no line otherwise."""
     count = model.number(rest, 0, 4) + 1
     if count > model.MOST_SEGMENTS or len(rest) < 4 + 4 * count:
         return []
@@ -240,7 +240,7 @@ def least(rest):
 
 def needed(group):
     """Returns the least number of bytes of a group. A group has its tag and the bytes that the tag announces. After two
-    of the tags it also has a count, and after one of these as many words as the count says."""
+    of the tags it also has a count. After one of these two tags, as many words follow as the count says."""
     size = 1 + bin(group[0]).count("1")
     if group[0] not in (0, 255):
         return size

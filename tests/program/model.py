@@ -724,8 +724,8 @@ def run_canonical(data, framed=False, keep_going=False, **options):
 
 
 def pick(data, form="stream", message_words=8388608, first=1, last=2**64 - 1):
-    """Returns the output of `pick` from one number of a message to another, the line on standard error, and its exit
-    status."""
+    """Returns the output of `pick` for the messages from one number to another, the line on standard error, and its
+    exit status."""
     if last < first:
         return b"", "", 0
     found, fault = messages(data, form, message_words)
