@@ -16,7 +16,7 @@ README = TOP / "python" / "README.md"
 MESSAGE = bytes.fromhex("0000000003000000" "0000000002000000" "0500000000000000" "0000000000000000")
 # A pointer to more words than the message has.
 WRONG = bytes.fromhex("0000000001000000" "0000000001000000")
-# Two children at pointer 1. The first or second has the name "ab".
+# Two children at pointer 1. The first child has the name "ab".
 CHILDREN = bytes.fromhex("0000000007000000" "0000000000000200" "0000000000000000" "0100000017000000" "0800000000000100"
                          "050000001a000000" "0000000000000000" "6162000000000000")
 TEXT = bytes.fromhex("0000000004000000" "0000000001000100" "0500000000000000" "0100000022000000" "6162630000000000")
