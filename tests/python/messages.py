@@ -2,8 +2,8 @@
 from tried import some
 
 # A value is one of these: None; ("struct", words, slots); ("list", code, count, bytes) for a list of numbers;
-# ("pointers", values); or ("rows", words, slots, [(words, slots)]). In the last, each row has as many words and slots
-# as the list says.
+# ("pointers", values); or ("rows", words, slots, [(words, slots)]). In a value of the last kind, each row has as many
+# words and slots as the list says.
 NUMBERS = some.sampled_from([0, 0, 1, 1 << 63]) | some.integers(0, (1 << 64) - 1)
 BITS = {0: 0, 1: 1, 2: 8, 3: 16, 4: 32, 5: 64}
 

@@ -79,7 +79,8 @@ def streamed(**options):
 
 
 def of_words(count):
-    """Returns a message with a segment of this many words. Its structs have small numbers and texts, in turn."""
+    """Returns a message with a segment of this many words. The message is a struct. Its words are small numbers and
+    texts, in turn."""
     segment = [count - 1 << 32, *((at, int.from_bytes(b"abcdefg\0", "little"))[at % 2] for at in range(count - 1))]
     return b"".join(word.to_bytes(8, "little") for word in [count << 32, *segment])
 

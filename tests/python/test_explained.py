@@ -60,7 +60,8 @@ def stop_of(refusal):
 
 
 def segments_of(source):
-    """Returns the words of a message. It is random, or is accepted but for one word, or is one list of bytes."""
+    """Returns the words of a message. The message is random, or would be accepted except for one word, or is one list
+    of bytes."""
     kind = source.random()
     if kind < 0.3:
         return archives.segments_of(source)

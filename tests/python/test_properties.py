@@ -1,4 +1,4 @@
-"""Properties that hold for every value and for any bytes. They are tested on random values and bytes."""
+"""Tests properties that hold for every value and for any bytes. The values and bytes are random."""
 import hashlib
 import unittest
 

@@ -8,13 +8,13 @@ import capn
 CRATES = Path(__file__).resolve().parents[2] / "crates"
 CALLS = re.compile(
     r"(plain )?(canonicalise|is_canonical|survey|pack|unpack) .*|run \d+ hash --form (bare|stream) (?!--).*"
-    # Of the packed streams, take only those of one message. Its digest is a line of 65 bytes.
+    # Of the packed streams, take only those of one message. The digest of one message is a line of 65 bytes.
     r"|run \d+ hash --form packed (?!--)[^|]*\|status 0, [0-9a-f]{130}"
 )
 
 
 def stored():
-    """Yields each case with its answer. They are the second and the third of its three lines."""
+    """Yields each case with its answer. The case and the answer are the second and the third of three lines."""
     for file in sorted(CRATES.glob("conformance_*/cases/*")):
         for one in file.read_text().removesuffix("\n").split("\n\n"):
             _, case, answer = one.splitlines()
