@@ -1,7 +1,7 @@
 -- Lemmas for `eight_dense` in `signs.rt`: a tag whose lowest zero bit, once set, gives 255 has at most one zero bit.
 use Rattle.std.proofs.Common.{◌≡◌, ℕ, zero, suc, ◌+◌, ◌*◌, ◌/◌, ◌%◌, ◌^◌, ◌<◌, ◌≤◌, true, eqb, ltb}
-use Rattle.std.proofs.Common.{List, [], ◌∷◌, length, take, drop, refl, sym, ap, ◌∙◌, subst, arith, length-take, length-drop}
-use Rattle.std.proofs.Common.{bit_or, ◌&&◌}
+use Rattle.std.proofs.Common.{List, [], ◌∷◌, length, take, drop, refl, sym, ap, ◌∙◌, subst, arith, length-take}
+use Rattle.std.proofs.Common.{length-drop, bit_or, ◌&&◌}
 use Rattle.std.specs.Prelude.{⊤}
 use Rattle.std.proofs.lemmas.Bool.{agree_below_at, eq-eqb, ltb-true}
 use Rattle.std.proofs.Math.Nat.{two-pow-succ}

@@ -93,11 +93,6 @@ zero_steps bytes start count step z more few =
           ∙ ap (λ n. replicate n 0) size);
     }
 
--- no word at offset `at` is zero if the tag of the word isn't
-pub no_zero_at : (bytes : List ℕ) (at : ℕ) → (tag_of (take 8 (drop at bytes)) ≡ 0 → ⊥)
-    → take 8 (drop at bytes) ≡ replicate 8 0 → ⊥
-no_zero_at bytes at not e = not (ap tag_of e)
-
 -- ---- dense words
 
 dense_join : (n m : ℕ) (bs cs : List ℕ) → AllDense n bs → length bs ≡ 8 * n → AllDense m cs
@@ -154,11 +149,6 @@ dense_more bytes start limit count d less room h =
     (record { most = omega arith; inside = omega arith; dense = subst (AllDense 1) (sym here) (one_dense word dense) })
 
 -- ---- words without a zero byte
-
-zeros_split : (n : ℕ) (xs : List ℕ) → zero_count (take n xs) + zero_count (drop n xs) ≡ zero_count xs
-zeros_split zero xs = omega arith
-zeros_split (suc n) [] = omega arith
-zeros_split (suc n) (x ∷ xs) = omega (arith, zeros_split n xs)
 
 -- if every bit of the tag of `xs` is set, no byte of `xs` is zero
 pub eight_dense_at : (bytes : List ℕ) (at : ℕ) → AllDense 8 (take 64 (drop at bytes))

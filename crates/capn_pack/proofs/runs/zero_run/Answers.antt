@@ -3,7 +3,9 @@ use Rattle.capn_pack.proofs.RunLemmas.{zero_steps, no_word}
 use Rattle.capn_pack.proofs.runs.zero_run.Goals as goal
 
 pub loop-count-preserved : goal.loop-count-preserved
-loop-count-preserved c = zero_steps _ _ _ _ c.loop-count.invariant c.zero_step-step.ensures.run (omega (arith, c.zero_step-step.ensures.most))
+loop-count-preserved c =
+    zero_steps _ _ _ _ c.loop-count.invariant c.zero_step-step.ensures.run
+    (omega (arith, c.zero_step-step.ensures.most))
 
 pub returns-then-step-eq0-clause-last : goal.returns-then-step-eq0-clause-last
 returns-then-step-eq0-clause-last c less e = c.zero_step-step.ensures.last c.if-step-eq0.true e
