@@ -12,7 +12,7 @@ use crate::fault::ArchiveFault;
 use crate::limits_report::{Needs, limits_text};
 use crate::task::{ArchiveOrder, Task};
 use capn_canon::Refusal;
-use capn_serve::{Position, Run, RunFault, SkippedSoFar, skipped_of, write_all};
+use capn_serve::{Position, Run, RunFault, SkippedSoFar, skipped_of};
 use capn_words::Watched;
 use std::alloc::Allocator;
 use std::io::Write;
@@ -117,5 +117,5 @@ pub(crate) fn write_closing<W: Write, A: Allocator + Copy>(
         (W.contents (inner_of writer.new)) (has_failed writer.new) result }
 {
     let text = closing_text(alloc, order.task, &needs_of(order, run))?;
-    write_all(writer, text.as_bytes())
+    Ok(writer.write_all(text.as_bytes())?)
 }

@@ -120,8 +120,5 @@ pub(crate) fn limits_text<A: Allocator>(alloc: A, needs: &Needs) -> Result<Strin
     ensures only { IfErr result (λ e. (e ≡ faults.Memory) × (spec.limits_text needs.now ≢ [])) }
 {
     let advice = Advice(needs);
-    match format!(in alloc; "{needs}\n{advice}\n") {
-        Ok(text) => Ok(text),
-        Err(_) => Err(RunFault::Memory),
-    }
+    Ok(format!(in alloc; "{needs}\n{advice}\n")?)
 }

@@ -57,20 +57,14 @@ fn refusal_end<A: Allocator>(alloc: A, refusal: &Refusal) -> Result<String<A>, S
         ++ codes "\n")) }
     ensures only { IfErr result (λ e. e ≡ faults.Memory) }
 {
-    match format!(in alloc; " refused {refusal}\n") {
-        Ok(text) => Ok(text),
-        Err(_) => Err(ServeFault::Memory),
-    }
+    Ok(format!(in alloc; " refused {refusal}\n")?)
 }
 
 /// Appends `bytes` to `text`, or nothing if an allocation is refused.
 fn put_bytes<A: Allocator>(text: &mut Vec<u8, A>, bytes: &[u8]) -> Result<(), ServeFault>
     ensures { PutsText bytes.now text.old.items text.new.items result }
 {
-    match text.extend_from_slice(bytes) {
-        Ok(()) => Ok(()),
-        Err(_) => Err(ServeFault::Memory),
-    }
+    Ok(text.extend_from_slice(bytes)?)
 }
 
 /// Appends `front` and `back` to `text`. If an allocation is refused, some of these bytes may have been appended.

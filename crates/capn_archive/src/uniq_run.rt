@@ -13,7 +13,7 @@ use crate::end_of_archive::{fault_after, outcome};
 use crate::fault::ArchiveFault;
 use crate::uniq_order::UniqOrder;
 use crate::uniq_service::UniqService;
-use capn_serve::{Run, RunFault, write_all};
+use capn_serve::{Run, RunFault};
 use capn_words::Watched;
 use std::alloc::Allocator;
 use std::io::{Read, Write};
@@ -30,10 +30,7 @@ fn count_line<A: Allocator>(alloc: A, kept: usize, served: u64) -> Result<String
     ensures found { IfOk result (λ line. string_bytes line ≡ spec.count_line kept served) }
     ensures only { IfErr result (λ e. (e ≡ faults.Memory) × (spec.count_line kept served ≢ [])) }
 {
-    match format!(in alloc; "{kept} of {served}\n") {
-        Ok(line) => Ok(line),
-        Err(_) => Err(RunFault::Memory),
-    }
+    Ok(format!(in alloc; "{kept} of {served}\n")?)
 }
 
 /// Writes the line of `uniq --count` after the last message, if `count` is set in the options of `run`.
@@ -51,7 +48,7 @@ fn write_count<W: Write, A: Allocator + Copy>(
         return Ok(());
     }
     let line = count_line(alloc, service.kept(), service.served())?;
-    write_all(writer, line.as_bytes())
+    Ok(writer.write_all(line.as_bytes())?)
 }
 
 /// Returns the outcome of `run`, which has read all of its input.

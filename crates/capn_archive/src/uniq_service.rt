@@ -55,10 +55,7 @@ fn insert_digest<A: Allocator + Copy>(
     ensures inserts { InsertsDigest digests.old.seen digests.new.seen digest result }
     ensures memory { OnErr result (MayGrow digests.old digest) }
 {
-    match digests.insert(digest) {
-        Ok(is_duplicate) => Ok(is_duplicate),
-        Err(_) => Err(ServeFault::Memory),
-    }
+    Ok(digests.insert(digest)?)
 }
 
 /// Writes `frame`, unless messages are only counted or the message is a duplicate.

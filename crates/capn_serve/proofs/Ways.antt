@@ -7,7 +7,7 @@ use Rattle.std.proofs.KnownBytes.{Appends-trans}
 use Rattle.capn_words.specs.Watched.{HasBegun}
 use Rattle.capn_serve.specs.Line.{Goes, Says, WritesLine, way}
 
-begun_behind : (start now new : Option (List ℕ)) (front part : List ℕ) → Appends start now front → HasBegun now new part
+pub begun_behind : (start now new : Option (List ℕ)) (front part : List ℕ) → Appends start now front → HasBegun now new part
     → HasBegun start new (front ++ part)
 begun_behind start now new front part before (count, wrote) = (
   length front + count,
@@ -25,7 +25,7 @@ same_beginning (suc n) [] part = (0, refl)
 same_beginning (suc n) (x ∷ said) part =
     let (k, same) = same_beginning n said part in (suc k, ap (λ (xs : List ℕ). x ∷ xs) same)
 
-begun_longer : (start new : Option (List ℕ)) (said part : List ℕ) → HasBegun start new said
+pub begun_longer : (start new : Option (List ℕ)) (said part : List ℕ) → HasBegun start new said
     → HasBegun start new (said ++ part)
 begun_longer start new said part (count, wrote) =
     let (k, same) = same_beginning count said part in

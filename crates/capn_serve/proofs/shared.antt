@@ -6,3 +6,4 @@ pub mod Given
 pub mod OneServing
 pub mod Until
 pub mod AfterMessages
+pub mod Wrote

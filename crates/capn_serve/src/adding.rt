@@ -21,14 +21,9 @@ fn send_bytes<W: Write, A: Allocator>(
     ensures { Sends bytes.now (outgoing (W.contents (inner_of writer.old)) text.old.items)
         (outgoing (W.contents (inner_of writer.new)) text.new.items) (has_failed writer.new) result }
 {
-    if writer.write_all(text).is_err() {
-        return Err(ServeFault::Io);
-    }
+    writer.write_all(text)?;
     text.clear();
-    match writer.write_all(bytes) {
-        Ok(()) => Ok(()),
-        Err(_) => Err(ServeFault::Io),
-    }
+    Ok(writer.write_all(bytes)?)
 }
 
 /// Adds `bytes` to the output of a message. Short bytes are appended to `text`. Long bytes are written to `writer`,
@@ -49,8 +44,5 @@ pub fn add_bytes<W: Write, A: Allocator>(
     if ENOUGH <= text.len() + bytes.len() {
         return send_bytes(bytes, text, writer);
     }
-    match text.extend_from_slice(bytes) {
-        Ok(()) => Ok(()),
-        Err(_) => Err(ServeFault::Memory),
-    }
+    Ok(text.extend_from_slice(bytes)?)
 }

@@ -12,7 +12,6 @@ ghost use Rattle.capn_serve.specs.WholeInput.{TakesAll};
 
 use crate::fault::RunFault;
 use crate::message::add_message;
-use crate::output::write_all;
 use crate::position::Position;
 use crate::service::{Run, Service};
 use crate::whole_input::read_all;
@@ -100,5 +99,5 @@ pub fn run_bare<S: Service, R: Read, W: Write, A: Allocator + Copy>(
     let bytes = read_bare(alloc, run.at, reader)?;
     let mut text = Vec::new(alloc);
     serve_bare(alloc, run, &bytes, &mut text, writer)?;
-    write_all(writer, &text)
+    Ok(writer.write_all(&text)?)
 }

@@ -4,14 +4,16 @@ ghost use Rattle.std.specs.Prelude.{◌≡◌, ◌≢◌, ◌⊎◌};
 ghost use Rattle.capn_target.specs.declared.target.Fault.TheVariants as walk_faults;
 ghost use Rattle.capn_canon.specs.declared.refusal.Refusal.TheVariants as refusals;
 ghost use Rattle.capn_serve.specs.declared.fault.ServeFault.TheVariants as serve_faults;
+ghost use Rattle.capn_serve.specs.declared.fault.RunFault.TheVariants as run_faults;
 
 use crate::position::Position;
 use crate::refusal_line::{say_place, say_refusal};
 use crate::{Ending, Line};
 use capn_canon::Refusal;
 use capn_walk::{Fault, Stopped};
-use capn_words::Watched;
-use std::io::Write;
+use capn_words::{Memory, Watched};
+use std::alloc::AllocError;
+use std::io::{self, Write};
 
 /// The reason why a service did not serve a message.
 #[derive(Clone, Copy, Debug, PartialEq, Eq)]
@@ -22,6 +24,30 @@ pub enum ServeFault {
     Io,
     /// The message or its value is refused. No byte of the message's text was added.
     Refused(Refusal),
+}
+
+impl From<AllocError> for ServeFault {
+    ghost from_gives = { λ _ fault. fault ≡ serve_faults.Memory };
+
+    fn from(_error: AllocError) -> ServeFault {
+        ServeFault::Memory
+    }
+}
+
+impl From<Memory> for ServeFault {
+    ghost from_gives = { λ _ fault. fault ≡ serve_faults.Memory };
+
+    fn from(_error: Memory) -> ServeFault {
+        ServeFault::Memory
+    }
+}
+
+impl From<io::Error> for ServeFault {
+    ghost from_gives = { λ _ fault. fault ≡ serve_faults.Io };
+
+    fn from(_error: io::Error) -> ServeFault {
+        ServeFault::Io
+    }
 }
 
 /// Returns the fault of a message whose walk ended with `stopped`. The fault is `Memory` if an allocation was refused,
@@ -47,6 +73,22 @@ pub enum RunFault {
     InputTooLong,
     /// The message at this position is refused, or no message can begin there.
     Refused(Position, Refusal),
+}
+
+impl From<AllocError> for RunFault {
+    ghost from_gives = { λ _ fault. fault ≡ run_faults.Memory };
+
+    fn from(_error: AllocError) -> RunFault {
+        RunFault::Memory
+    }
+}
+
+impl From<io::Error> for RunFault {
+    ghost from_gives = { λ _ fault. fault ≡ run_faults.Io };
+
+    fn from(_error: io::Error) -> RunFault {
+        RunFault::Io
+    }
 }
 
 impl Ending for RunFault {

@@ -21,10 +21,7 @@ pub fn write_all<W: Write>(writer: &mut Watched<W>, text: &[u8]) -> Result<(), R
     ensures io { IsErrOf result RunFault.Io ↔ (has_failed writer.new ≡ true) }
     ensures only { IsOkUnless result RunFault.Io }
 {
-    match writer.write_all(text) {
-        Ok(()) => Ok(()),
-        Err(_) => Err(RunFault::Io),
-    }
+    Ok(writer.write_all(text)?)
 }
 
 /// Writes and clears `text`, if `text` has at least 65,536 bytes.
@@ -57,13 +54,9 @@ fn flush<W: Write, A: Allocator>(
     ensures { Flushes (outgoing (W.contents (inner_of writer.old)) text.old.items)
         (outgoing (W.contents (inner_of writer.new)) text.new.items) (has_failed writer.new) result }
 {
-    match writer.write_all(text) {
-        Ok(()) => {
-            text.clear();
-            Ok(())
-        }
-        Err(_) => Err(ServeFault::Io),
-    }
+    writer.write_all(text)?;
+    text.clear();
+    Ok(())
 }
 
 /// Writes `text`, unless the writer has failed before. Returns `served`, or `Io` if the writer fails now.
@@ -79,6 +72,6 @@ pub(crate) fn send_rest<W: Write>(
     if writer.failed() {
         return served;
     }
-    write_all(writer, text)?;
+    writer.write_all(text)?;
     served
 }

@@ -46,10 +46,8 @@ pub fn read_all<R: Read, A: Allocator>(
             Ok(0) => return Ok(WholeInput { bytes, len }),
             Ok(count) => {
                 let kept = count.min(most - bytes.len());
-                match bytes.extend_from_slice(&chunk[..kept]) {
-                    Ok(()) => len += count,
-                    Err(_) => return Err(RunFault::Memory),
-                }
+                bytes.extend_from_slice(&chunk[..kept])?;
+                len += count;
             }
         }
     }

@@ -1,34 +1,26 @@
-use Rattle.std.proofs.Common.{◌≡◌, ℕ, ◌+◌, List, ◌++◌, length, take, Bool, true, false, ◌||◌, Option, Result, Ok, Err}
-use Rattle.std.proofs.Common.{OnOk, is_err, refl, sym, ◌∙◌, subst}
-use Rattle.std.proofs.Math.Seq.{take-append-add}
-use Rattle.std.specs.Io.KnownBytes.{Appends}
-use Rattle.std.proofs.KnownBytes.{Appends-trans}
-use Rattle.capn_words.specs.Watched.{HasBegun}
+use Rattle.std.proofs.Common.{refl}
+use Rattle.std.proofs.lemmas.Result.{err_from_is_err_and}
+use Rattle.capn_serve.proofs.Ways.{begun_behind, begun_longer}
+use Rattle.capn_serve.proofs.shared.Wrote.{has_failed_now, is_fine_still}
 use Rattle.capn_serve.proofs.adding.send_bytes.Goals as goal
 
-begun_after : (c d e : Option (List ℕ)) (text seen bytes : List ℕ) → seen ≡ text → Appends c d seen
-    → HasBegun d e bytes → HasBegun c e (text ++ bytes)
-begun_after c d e text seen bytes same wrote (count, begun) = (
-  length text + count,
-  subst (Appends c e) (sym (take-append-add text bytes count))
-      (Appends-trans c d e text (take count bytes) (subst (Appends c d) same wrote) begun),
-)
-
-on_ok : {T E : Type 0} (r : Result T E) (P : Type 0) → is_err r ≡ false → OnOk r P → P
-on_ok (Ok u) P is p = p
-on_ok (Err e) P is p = absurd (cc)
-
-or_true : (a b c : Bool) → a ≡ (b || c) → c ≡ true → a ≡ true
-or_true a true c is so = is
-or_true a false c is so = is ∙ so
-
-pub returns-in-Err : goal.returns-in-Err
-returns-in-Err g c =
-    let value = c.is_err.ensures.value in
-    let none = c.if-is_err.false in
-    let ok : is_err c.write_all.result ≡ false = cc in (
+pub returns-in_err-write_all : goal.returns-in_err-write_all
+returns-in_err-write_all g c =
+    let wrote = c.in_err-write_all.ensures in
+    let p = err_from_is_err_and c.from_residual.result c.from_residual.ensures.1 in
+    rw (p.1, p.2) (
       refl,
-      begun_after _ _ _ c.args.text.now.items _ c.args.bytes.now c.deref.ensures.value
-          (on_ok c.write_all.result _ ok c.write_all.ensures.ok) c.in-Err.ensures.begun,
-      or_true _ _ true c.in-Err.ensures.failed refl,
+      begun_longer _ _ c.args.text.now.items c.args.bytes.now (rw c.deref.ensures.value at wrote.begun),
+      has_failed_now _ _ c.requires wrote.failed,
+    )
+
+pub returns-in_err-write_all-2 : goal.returns-in_err-write_all-2
+returns-in_err-write_all-2 g c =
+    let sent = c.in_ok-write_all.ensures in
+    let wrote = c.in_err-write_all-2.ensures in
+    let p = err_from_is_err_and c.from_residual-in_err-write_all-2.result c.from_residual-in_err-write_all-2.ensures.1 in
+    rw (p.1, p.2) (
+      refl,
+      begun_behind _ _ _ c.args.text.now.items c.args.bytes.now (rw c.deref.ensures.value at sent.ok) wrote.begun,
+      has_failed_now _ _ (is_fine_still _ _ c.requires sent.failed) wrote.failed,
     )

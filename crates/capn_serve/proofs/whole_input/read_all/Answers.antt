@@ -2,6 +2,7 @@ use Rattle.std.proofs.Common.{◌≡◌, ◌++◌, [], length, take, drop, lengt
 use Rattle.std.specs.Prelude.{min}
 use Rattle.std.proofs.Common.{◌-◌, arith, inl, refl, ap, sym, ◌∙◌, take_all}
 use Rattle.std.proofs.KnownBytes.{Consumes-kept}
+use Rattle.std.proofs.lemmas.Result.{err_from_is_err_and}
 use Rattle.capn_serve.proofs.shared.Given.{given_all, given_more, given_none, size_kept}
 use Rattle.capn_serve.proofs.WholeRead.{first_more, given_broken, given_long, given_memory}
 use Rattle.capn_serve.proofs.InputRead.{has_broken, still_fine}
@@ -36,12 +37,14 @@ returns-in-Ok-eq0 g c =
       (i.first, i.size),
     )
 
-pub returns-in-Err-extend_from_slice : goal.returns-in-Err-extend_from_slice
-returns-in-Err-extend_from_slice g c =
+pub returns-in_err-extend_from_slice-in-Ok : goal.returns-in_err-extend_from_slice-in-Ok
+returns-in_err-extend_from_slice-in-Ok g c =
     let i = c.chunks.invariant in
+    let p = err_from_is_err_and c.from_residual.result c.from_residual.ensures.1 in
     let bound = c.in-Ok.ensures.bound in
     let room = length-take c.min-room.result c.chunks.chunk in
-    inl
+    rw (p.1, p.2)
+    (inl
     (given_memory _ _ _ _
     (given_more _ _ _ _ _ i.seen c.read.new.buf c.in-Ok.count i.given c.in-Ok.ensures.bytes.0 bound.0
     (omega (arith, room, bound.0, i.size)) (still_fine _ _ i.given.fine c.in-Ok.ensures.failed))
@@ -50,7 +53,7 @@ returns-in-Err-extend_from_slice g c =
       c.in-Ok.count-test,
       length-append i.seen (take c.in-Ok.count c.read.new.buf),
       length-take-le c.in-Ok.count c.read.new.buf bound.0,
-    )))
+    ))))
 
 pub slice_bounds-chunk-end-in-Ok : goal.slice_bounds-chunk-end-in-Ok
 slice_bounds-chunk-end-in-Ok g c =
@@ -70,7 +73,7 @@ chunks-preserved g c =
     let bound = c.in-Ok.ensures.bound in
     let tail = drop c.min-room.result c.chunks.chunk in
     let room = length-take c.min-room.result c.chunks.chunk in
-    let items = c.in-Ok-extend_from_slice.ensures.items in
+    let items = c.in_ok-extend_from_slice-in-Ok.ensures.items in
     let size = length-append c.read.new.buf tail in
     let least : c.min-kept.result ≡ min c.in-Ok.count (c.args.most - length c.chunks.bytes.items) =
     omega (arith, c.min-kept.ensures, c.len.ensures) in
