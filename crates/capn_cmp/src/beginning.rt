@@ -52,10 +52,7 @@ fn with_room<A: Allocator>(alloc: A, room: usize) -> Result<Vec<u8, A>, ServeFau
     ensures found { IfOk result (λ bytes. bytes.items ≡ []) }
     ensures only { IfErr result (λ e. e ≡ faults.Memory) }
 {
-    match Vec::with_capacity(alloc, room) {
-        Ok(bytes) => Ok(bytes),
-        Err(_) => Err(ServeFault::Memory),
-    }
+    Ok(Vec::with_capacity(alloc, room)?)
 }
 
 /// Returns a writer that appends at most `room` bytes to `bytes`, which is empty.

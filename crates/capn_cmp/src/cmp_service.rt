@@ -73,10 +73,7 @@ impl<B: Allocator> CmpService<B> {
     {
         if at.index == 0 {
             self.first.clear();
-            return match self.first.extend_from_slice(canonical) {
-                Ok(()) => Ok(()),
-                Err(_) => Err(ServeFault::Memory),
-            };
+            return Ok(self.first.extend_from_slice(canonical)?);
         }
         if self.first.as_slice() == canonical {
             return Ok(());

@@ -1,6 +1,6 @@
 //! The report of `cmp` on a message that differs, with its position and the first lines that differ.
 
-ghost use Rattle.std.specs.Prelude.{◌≡◌, ◌++◌, IfErr, IfOk, IfSome, OnOk};
+ghost use Rattle.std.specs.Prelude.{◌≡◌, IfErr, IfOk, IfSome};
 ghost use Rattle.capn_serve.specs.declared.fault.ServeFault.TheVariants as faults;
 ghost use Rattle.capn_cmp.specs.CmpMessages.{IsReport, report};
 ghost use Rattle.capn_cmp.specs.ShownText.{IsShownFrom};
@@ -10,16 +10,6 @@ use crate::lines_apart::lines_apart;
 use capn_serve::{Position, ServeFault};
 use capn_walk::Limits;
 use std::alloc::Allocator;
-
-fn put_part<A: Allocator>(text: &mut Vec<u8, A>, part: &[u8]) -> Result<(), ServeFault>
-    ensures put { OnOk result (text.new.items ≡ text.old.items ++ part.now) }
-    ensures only { IfErr result (λ e. e ≡ faults.Memory) }
-{
-    match text.extend_from_slice(part) {
-        Ok(()) => Ok(()),
-        Err(_) => Err(ServeFault::Memory),
-    }
-}
 
 /// Returns the report on the message at `at`. The first lines that differ are `line` in the text of the first message,
 /// and `other` in the text of the message at `at`.
@@ -35,16 +25,13 @@ fn report_of<A: Allocator + Copy>(
 {
     let number = u128::from(at.index) + 1;
     let offset = at.offset;
-    let Ok(head) = format!(in alloc; "message {number} at {offset} differs from message 1\n< ")
-    else {
-        return Err(ServeFault::Memory);
-    };
+    let head = format!(in alloc; "message {number} at {offset} differs from message 1\n< ")?;
     let mut text = Vec::new(alloc);
-    put_part(&mut text, head.as_bytes())?;
-    put_part(&mut text, line)?;
-    put_part(&mut text, b"\n> ")?;
-    put_part(&mut text, other)?;
-    put_part(&mut text, b"\n")?;
+    text.extend_from_slice(head.as_bytes())?;
+    text.extend_from_slice(line)?;
+    text.extend_from_slice(b"\n> ")?;
+    text.extend_from_slice(other)?;
+    text.extend_from_slice(b"\n")?;
     Ok(text)
 }
 
