@@ -15,7 +15,7 @@ use crate::outcome::Outcome;
 use crate::reporter::Reporter;
 use capn_canon::Refusal;
 use capn_diagnostics::CountText;
-use capn_serve::{Begun, Position, Run, RunFault, write_all};
+use capn_serve::{Begun, Position, Run, RunFault};
 use capn_words::{Memory, Watched};
 use std::alloc::Allocator;
 use std::io::Write;
@@ -55,10 +55,7 @@ fn count_line<A: Allocator>(alloc: A, count: CountText) -> Result<String<A>, Run
     ensures found { IfOk result (λ line. string_bytes line ≡ spec.count_line count) }
     ensures only { IfErr result (λ e. e ≡ faults.Memory) }
 {
-    match format!(in alloc; "{count}\n") {
-        Ok(line) => Ok(line),
-        Err(_) => Err(RunFault::Memory),
-    }
+    Ok(format!(in alloc; "{count}\n")?)
 }
 
 /// Returns the lines of `account`, the account of the only message.
@@ -69,10 +66,7 @@ fn only_lines<B: Allocator, A: Allocator>(
     ensures found { IfOk result (λ lines. string_bytes lines ≡ account_text account.now) }
     ensures only { IfErr result (λ e. e ≡ faults.Memory) }
 {
-    match format!(in alloc; "{account}") {
-        Ok(lines) => Ok(lines),
-        Err(_) => Err(RunFault::Memory),
-    }
+    Ok(format!(in alloc; "{account}")?)
 }
 
 /// Returns the text of a run that read `count` messages and explained no message during the loop, or `None` if the text
@@ -107,7 +101,7 @@ fn write_kept<W: Write>(lines: &[u8], writer: &mut Watched<W>) -> Result<(), Run
     if lines.is_empty() {
         return Ok(());
     }
-    write_all(writer, lines)
+    Ok(writer.write_all(lines)?)
 }
 
 /// Writes the text of a run that read `count` messages and explained no message during the loop.
@@ -123,7 +117,7 @@ fn write_rest<W: Write, B: Allocator, A: Allocator>(
         (W.contents (inner_of writer.new)) (has_failed writer.old) (has_failed writer.new) result }
 {
     match rest_lines(alloc, number, first, count)? {
-        Some(lines) => write_all(writer, lines.as_bytes()),
+        Some(lines) => Ok(writer.write_all(lines.as_bytes())?),
         None => Ok(()),
     }
 }
@@ -153,10 +147,8 @@ fn with_empty_line<A: Allocator>(mut lines: String<A>) -> Result<String<A>, RunF
     ensures found { IfOk result (λ more. string_bytes more ≡ string_bytes lines ++ codes "\n") }
     ensures only { IfErr result (λ e. e ≡ faults.Memory) }
 {
-    match lines.push_str("\n") {
-        Ok(()) => Ok(lines),
-        Err(_) => Err(RunFault::Memory),
-    }
+    lines.push_str("\n")?;
+    Ok(lines)
 }
 
 /// Returns the lines of the `refusal` that ended the loop over the messages at the position `at`. `begun` has the
@@ -198,7 +190,7 @@ fn write_refusal<W: Write, B: Allocator + Copy, A: Allocator + Copy>(
         (W.contents (inner_of writer.new)) (has_failed writer.old) (has_failed writer.new) result }
 {
     let lines = refusal_lines(alloc, order, at, refusal, begun, apart)?;
-    write_all(writer, lines.as_bytes())
+    Ok(writer.write_all(lines.as_bytes())?)
 }
 
 /// Writes the lines of the refusal in `fault`, which ended the loop over the messages. If `apart` is true, an empty

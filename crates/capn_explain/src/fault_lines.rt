@@ -107,8 +107,5 @@ pub(crate) fn fault_lines<A: Allocator>(
         segments: segments_at(refusal, rest),
     };
     let key = key_of(refusal, limits.message_words(), rest, came);
-    match format!(in alloc; "{head}refused: {refusal}\n{key}") {
-        Ok(lines) => Ok(lines),
-        Err(_) => Err(RunFault::Memory),
-    }
+    Ok(format!(in alloc; "{head}refused: {refusal}\n{key}")?)
 }

@@ -30,7 +30,7 @@ pub(crate) fn told_of<S: Space, A: Allocator + Copy>(
     ensures only { IfErr result (λ e. e ≡ faults.Memory) }
 {
     let table = table_words(order.form, message);
-    match explain_stop(
+    let told = explain_stop(
         alloc,
         message,
         at.index,
@@ -38,20 +38,15 @@ pub(crate) fn told_of<S: Space, A: Allocator + Copy>(
         table,
         order.limits,
         stopped,
-    ) {
-        Ok(told) => Ok(told),
-        Err(_) => Err(ServeFault::Memory),
-    }
+    )?;
+    Ok(told)
 }
 
 /// Appends `bytes` to `text`, or nothing if an allocation is refused.
 pub(crate) fn put_bytes<A: Allocator>(text: &mut Vec<u8, A>, bytes: &[u8]) -> Result<(), ServeFault>
     ensures { PutsText bytes.now text.old.items text.new.items result }
 {
-    match text.extend_from_slice(bytes) {
-        Ok(()) => Ok(()),
-        Err(_) => Err(ServeFault::Memory),
-    }
+    Ok(text.extend_from_slice(bytes)?)
 }
 
 fn lines_of<B: Allocator, A: Allocator>(
@@ -61,10 +56,7 @@ fn lines_of<B: Allocator, A: Allocator>(
     ensures found { IfOk result (λ lines. string_bytes lines ≡ account_text account.now) }
     ensures only { IfErr result (λ e. e ≡ faults.Memory) }
 {
-    match format!(in alloc; "{account}") {
-        Ok(lines) => Ok(lines),
-        Err(_) => Err(ServeFault::Memory),
-    }
+    Ok(format!(in alloc; "{account}")?)
 }
 
 /// Appends the lines of `account` to `text`, or nothing if an allocation is refused.
@@ -92,8 +84,6 @@ pub(crate) fn put_accepted<S: Space, A: Allocator + Copy>(
     requires surveyed { AreFigures (S.message message.now) order.now.limits surveyed }
     ensures { PutsAccount order.now at (S.message message.now) text.old.items text.new.items result }
 {
-    match account_of(alloc, order.form, at, message, order.limits, surveyed) {
-        Ok(account) => put_account(alloc, &account, text),
-        Err(_) => Err(ServeFault::Memory),
-    }
+    let account = account_of(alloc, order.form, at, message, order.limits, surveyed)?;
+    put_account(alloc, &account, text)
 }

@@ -8,7 +8,7 @@ ghost use Rattle.capn_explain.specs.inner.Closing.{AreLines, PutsClosing};
 use crate::closing::{rest_ending, rest_lines};
 use crate::fault::ReportFault;
 use crate::refused_reporter::RefusedReporter;
-use capn_serve::{Run, RunFault, SkippedSoFar, skipped_of, write_all};
+use capn_serve::{Run, RunFault, SkippedSoFar, skipped_of};
 use capn_words::Watched;
 use std::alloc::Allocator;
 use std::io::Write;
@@ -49,7 +49,7 @@ pub(crate) fn write_closing<W: Write, B: Allocator, A: Allocator + Copy>(
         (W.contents (inner_of writer.new)) (has_failed writer.old) (has_failed writer.new) result }
 {
     match closing_lines(alloc, run)? {
-        Some(lines) => write_all(writer, lines.as_bytes()),
+        Some(lines) => Ok(writer.write_all(lines.as_bytes())?),
         None => Ok(()),
     }
 }
