@@ -32,10 +32,7 @@ fn put_priced<A: Allocator>(
     line.put(end);
     line.put_named(b" visits ", visits as u64);
     line.put_named(b"ok paid ", paid as u64);
-    match text.extend_from_slice(line.as_bytes()) {
-        Ok(()) => Ok(()),
-        Err(_) => Err(ToolFault::Memory),
-    }
+    Ok(text.extend_from_slice(line.as_bytes())?)
 }
 
 /// Returns the line with the price `paid` and the number `visits`, each of one digit, as a small message has them. The
@@ -63,10 +60,7 @@ fn put_price_line<A: Allocator>(
 {
     if paid < 10 && visits < 10 {
         let line = short_line(paid, visits);
-        return match text.extend_from_slice(&line) {
-            Ok(()) => Ok(()),
-            Err(_) => Err(ToolFault::Memory),
-        };
+        return Ok(text.extend_from_slice(&line)?);
     }
     put_priced(text, paid, visits, b"\n")
 }
@@ -118,10 +112,7 @@ fn put_digest_line<A: Allocator>(bytes: &[u8], text: &mut Vec<u8, A>) -> Result<
     ensures { PutsLine (encode_lower (sha256 bytes.now) ++ 10 ∷ []) text.old.items text.new.items result }
 {
     let line = digest_line(bytes);
-    match text.extend_from_slice(&line) {
-        Ok(()) => Ok(()),
-        Err(_) => Err(ToolFault::Memory),
-    }
+    Ok(text.extend_from_slice(&line)?)
 }
 
 /// Appends the line with the digest of a message's canonical bytes. If the message is canonical, one pass finds that

@@ -60,10 +60,8 @@ pub(crate) fn add_end<W: Write, A: Allocator>(
     ensures { AddsEnd end.now (outgoing W.contents writer.old text.old.items)
         (outgoing W.contents writer.new text.new.items) result }
 {
-    match text.extend_from_slice(end) {
-        Ok(()) => flush_long(text, writer),
-        Err(_) => Err(ServeFault::Memory),
-    }
+    text.extend_from_slice(end)?;
+    flush_long(text, writer)
 }
 
 /// Adds the text of the value at `path` from a message's root, in `style`, and the line `end` if the style has one. A
