@@ -45,7 +45,7 @@ pub use fault::{RunFault, ServeFault, fault_of_stop};
 pub use form_run::{serve_form, serve_form_with};
 pub use line::Line;
 pub use number_line::NumberLine;
-pub use output::{flush_long, write_all};
+pub use output::flush_long;
 pub use packed_run::run_packed;
 pub use pick::{Pick, Range, StreamForm};
 pub use pick_run::{run_only, run_pick};

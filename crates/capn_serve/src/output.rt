@@ -1,8 +1,7 @@
 //! Writes the text of a run to its writer.
 
-ghost use Rattle.std.specs.Prelude.{◌≡◌, ◌↔◌, true, false, OnOk, IsErrOf, IsOkUnless};
-ghost use Rattle.std.specs.Io.KnownBytes.{Appends};
-ghost use Rattle.capn_words.specs.Watched.{HasBegun, inner_of, has_failed};
+ghost use Rattle.std.specs.Prelude.{◌≡◌, false};
+ghost use Rattle.capn_words.specs.Watched.{inner_of, has_failed};
 ghost use Rattle.capn_serve.specs.Outgoing.{Flushes, SendsRest, outgoing};
 
 use crate::fault::{RunFault, ServeFault};
@@ -12,17 +11,6 @@ use std::io::Write;
 
 /// The least number of bytes of a text that is written at once. A shorter text may be written later.
 pub(crate) const ENOUGH: usize = 65_536;
-
-/// Writes all of `text`. If the writer fails, a prefix of `text` was written, and `Io` is returned.
-pub fn write_all<W: Write>(writer: &mut Watched<W>, text: &[u8]) -> Result<(), RunFault>
-    requires { has_failed writer.old ≡ false }
-    ensures ok { OnOk result (Appends (W.contents (inner_of writer.old)) (W.contents (inner_of writer.new)) text.now) }
-    ensures begun { HasBegun (W.contents (inner_of writer.old)) (W.contents (inner_of writer.new)) text.now }
-    ensures io { IsErrOf result RunFault.Io ↔ (has_failed writer.new ≡ true) }
-    ensures only { IsOkUnless result RunFault.Io }
-{
-    Ok(writer.write_all(text)?)
-}
 
 /// Writes and clears `text`, if `text` has at least 65,536 bytes.
 ///
