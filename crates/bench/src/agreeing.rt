@@ -1,7 +1,8 @@
 //! `agree`: tests that the operations agree on a small message of each shape.
 
 use crate::calls::{
-    canonical, digest, message, packed, paid, received, test, unpacked, walked, words_of,
+    canonical, changed, compared, digest, message, packed, paid, received, test, unpacked, walked,
+    words_of,
 };
 use crate::shapes::{Shape, framed};
 use anyhow::{Result, ensure};
@@ -58,6 +59,24 @@ fn check_readings(alloc: Global, bytes: &[u8]) -> Result<()> {
     Ok(())
 }
 
+/// Checks that the changed message is accepted at the same price, and that it has another value than the message.
+fn check_changed(alloc: Global, bytes: &[u8]) -> Result<()> {
+    let other = changed(alloc, bytes)?;
+    ensure!(
+        paid(alloc, &other)? == paid(alloc, bytes)?,
+        "another price of the changed message"
+    );
+    ensure!(
+        compared(alloc, bytes, bytes)? == 1,
+        "another value than its own"
+    );
+    ensure!(
+        compared(alloc, bytes, &other)? == 0,
+        "the value of the changed message"
+    );
+    Ok(())
+}
+
 /// Returns the digest of a message's canonical bytes, in hexadecimal.
 fn digits_of(alloc: Global, bytes: &[u8]) -> Result<String> {
     let digest = digest(alloc, bytes)?;
@@ -77,6 +96,7 @@ pub(crate) fn agree(rt: &impl Print, alloc: Global) -> Result<()> {
         let bytes = framed(alloc, shape, BYTES)?;
         check_canonical(alloc, &bytes)?;
         check_readings(alloc, &bytes)?;
+        check_changed(alloc, &bytes)?;
         print_digest(rt, alloc, shape, &bytes)?;
     }
     Ok(())

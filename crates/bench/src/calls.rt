@@ -6,7 +6,7 @@ use capn_commands::{Command, run};
 use capn_pack::{pack, unpack};
 use capn_stream::{Framed, Framer, first};
 use capn_value::Tree;
-use capn_walk::{Entry, Limits, Walked, index_into, survey, walk};
+use capn_walk::{Entry, Kind, Limits, Walked, index, index_into, survey, walk};
 use capn_words::{MOST_MESSAGE_WORDS, Space, Watched};
 use sha2::{Digest, Sha256};
 use std::alloc::Global;
@@ -171,16 +171,47 @@ pub(crate) fn digest(alloc: Global, framed: &[u8]) -> Result<[u8; 32]> {
     Ok(Sha256::digest(canonical(alloc, framed)?.as_slice()))
 }
 
-/// Returns a framed message with one changed bit in the first word of its root's content. The message must have one
-/// segment, and its root must point to the next word.
+/// Tests whether the content of an entry begins with a data word, which is neither a pointer nor a tag.
+fn is_data(entry: &Entry) -> bool {
+    match entry.kind {
+        Kind::Node => entry.words != 0,
+        Kind::Bits | Kind::Bytes | Kind::Pairs | Kind::Quads | Kind::Octs => entry.count != 0,
+        Kind::Nil | Kind::Voids | Kind::Links | Kind::Rows | Kind::Cap => false,
+    }
+}
+
+/// Returns the number of bytes of a message from the content of an entry to the end of the last segment.
+fn bytes_from<S: Space>(message: &S, entry: &Entry) -> usize {
+    let mut words = 0u32;
+    for segment in entry.segment..message.segments() {
+        words = words.saturating_add(message.words(segment).unwrap_or(0));
+    }
+    (words.saturating_sub(entry.start) as usize).saturating_mul(8)
+}
+
+/// Returns the place of the first data word of a framed message in preorder, in bytes from the end.
+fn place_of_data(alloc: Global, framed: &[u8]) -> Result<usize> {
+    let message = message(alloc, framed)?;
+    match index(alloc, &message, Limits::usual()) {
+        Ok(index) => match index.entries.iter().find(|entry| is_data(entry)) {
+            Some(entry) => Ok(bytes_from(&message, entry)),
+            None => Err(anyhow!("no data word")),
+        },
+        Err(_) => Err(anyhow!("not indexed")),
+    }
+}
+
+/// Returns a framed message with one changed bit in its first data word, so that it is accepted as the message is, but
+/// has another value.
 pub(crate) fn changed(alloc: Global, framed: &[u8]) -> Result<Vec<u8>> {
+    let place = framed.len().saturating_sub(place_of_data(alloc, framed)?);
     let mut bytes = copied(alloc, framed)?;
-    match bytes.get_mut(16) {
+    match bytes.get_mut(place) {
         Some(byte) => {
             *byte ^= 1;
             Ok(bytes)
         }
-        None => Err(anyhow!("no root")),
+        None => Err(anyhow!("no such byte")),
     }
 }
 

@@ -43,7 +43,7 @@ pub(crate) enum Operation {
     Check,
     /// The comparison of the message with itself. The message is surveyed once for each side.
     Same,
-    /// The comparison of the message with one that differs in the first word of the root's content.
+    /// The comparison of the message with one that differs in its first data word.
     NotSame,
 }
 
