@@ -1,0 +1,19 @@
+//! Tests of calls that follow the pointers of a message: their targets, steps, depths, indexes, figures and reads.
+//!
+//! They are apart from the crates that they test, because a crate with tests is proved twice.
+#![tactic(auto)]
+
+#[cfg(test)]
+mod counted_calls;
+#[cfg(test)]
+mod depths;
+#[cfg(test)]
+mod indexes;
+#[cfg(test)]
+mod measures;
+#[cfg(test)]
+mod steps;
+#[cfg(test)]
+mod targets;
+#[cfg(test)]
+mod words;
