@@ -58,7 +58,7 @@ fn rest_of(bytes: &[u8], at: usize) -> &[u8] {
 }
 
 /// Returns the first `len` bytes, or all if there are fewer.
-fn start_of(bytes: &[u8], len: usize) -> &[u8] {
+pub(crate) fn start_of(bytes: &[u8], len: usize) -> &[u8] {
     if len <= bytes.len() {
         &bytes[..len]
     } else {
@@ -204,12 +204,51 @@ pub(crate) fn long_table(alloc: Global, count: u32) -> Result<Vec<u8>, Fail> {
     Ok(bytes)
 }
 
-/// A long table is cut at every byte. The longest table allowed is cut in its first words and in its last words. A
-/// longer table is refused at its fourth byte.
+/// Appends the frame of each message that a framer reads from `bytes`, fed the first `len` of them and then the rest.
+/// Returns the first fault, or the result of `finish`.
+fn feed_two(
+    alloc: Global,
+    bytes: &[u8],
+    len: usize,
+    frames: &mut Vec<u8>,
+) -> Result<(), FrameFault> {
+    let mut framer = Framer::new(alloc, MOST);
+    feed_piece(&mut framer, alloc, start_of(bytes, len), frames)?;
+    feed_piece(&mut framer, alloc, rest_of(bytes, len), frames)?;
+    framer.finish()
+}
+
+/// Tests whether a framer that is fed the first `len` bytes of `bytes`, and then the rest, returns the messages and the
+/// ending of `want`.
+fn is_told_in_two(alloc: Global, bytes: &[u8], want: &Told, len: usize) -> bool {
+    let mut frames = Vec::new(alloc);
+    let ending = feed_two(alloc, bytes, len, &mut frames);
+    ending == want.ending && frames.as_slice() == want.frames.as_slice()
+}
+
+/// Tests whether `stream`, cut into two chunks at each byte, and each prefix of it, fed at once, are read as `first`
+/// reads them.
+fn are_told_in_two(alloc: Global, stream: &[u8]) -> bool {
+    let want = told_at_once(alloc, stream);
+    for len in 1..=stream.len() {
+        let bytes = start_of(stream, len);
+        let cut = told_at_once(alloc, bytes);
+        if !is_told(alloc, bytes, &cut, len) || !is_told_in_two(alloc, stream, &want, len) {
+            return false;
+        }
+    }
+    true
+}
+
+/// A table of 161 segments is cut at every byte, and a longer one in two chunks. The longest table allowed is cut in
+/// its first words and in its last words. A longer table is refused at its fourth byte.
 #[test]
 fn long_tables_cut_at_every_byte(rt: HostRuntime) -> Result<(), Fail> {
+    let many = long_table(rt.alloc(), 160)?;
+    assert!(rt; many.len() == 656 && are_told(rt.alloc(), many.as_slice()));
     let long = long_table(rt.alloc(), 512)?;
-    assert!(rt; long.len() == 2_064 && are_told(rt.alloc(), long.as_slice()));
+    assert!(rt; long.len() == 2_064 && are_told_in_two(rt.alloc(), long.as_slice()));
+    assert!(rt; are_told_from(rt.alloc(), long.as_slice(), 2_040));
     let longest = long_table(rt.alloc(), 4_095)?;
     assert!(rt; are_told(rt.alloc(), start_of(longest.as_slice(), 64)));
     assert!(rt; longest.len() == 16_400 && are_told_from(rt.alloc(), longest.as_slice(), 16_370));

@@ -1,5 +1,5 @@
 //! Tests of the libraries' calls with too little memory or input. Each allocation is refused in turn, and input is cut
-//! at each byte.
+//! at each byte. `tests/program/allocations` counts the allocations of the built program for longer inputs.
 //!
 //! They are apart from the crates that they test, because a crate with tests is proved twice.
 #![tactic(auto)]
@@ -12,10 +12,6 @@ mod endless;
 mod framers;
 #[cfg(test)]
 mod growing;
-#[cfg(test)]
-mod long_archives;
-#[cfg(test)]
-mod long_streams;
 #[cfg(test)]
 mod no_memory;
 #[cfg(test)]

@@ -1,6 +1,5 @@
 //! Tests of the greatest allocation of `show`, for bare inputs and for the texts of long lists.
 
-use crate::long_streams::Counted;
 use crate::short_runs::output;
 use crate::subject::limits;
 use crate::words::bytes_of;
@@ -9,6 +8,7 @@ use capn_commands::Command;
 use capn_show::{Style, show_part};
 use capn_words::{Bare, Watched};
 use std::alloc::{AllocError, Global};
+use std::io::{self, Write};
 use std::test::Fail;
 use test_allocator::Refusing;
 
@@ -38,11 +38,28 @@ fn room_for_a_bare_input(rt: HostRuntime) -> Result<(), Fail> {
     Ok(())
 }
 
-/// The root pointer to a list of 4 MiB of bytes.
-const LONG: u64 = 0x200_0002_0000_0001;
+/// A writer that counts the bytes written.
+#[derive(Drop)]
+struct Counted {
+    bytes: u64,
+}
+
+impl Write for Counted {
+    fn write(&mut self, buf: &[u8]) -> io::Result<usize> {
+        self.bytes = self.bytes.saturating_add(buf.len() as u64);
+        Ok(buf.len())
+    }
+
+    fn flush(&mut self) -> io::Result<()> {
+        Ok(())
+    }
+}
+
+/// The root pointer to a list of 1 MiB of bytes.
+const LONG: u64 = 0x80_0002_0000_0001;
 
 /// The length in bytes of the bare message with the root `LONG`.
-const LONG_LEN: usize = 4_194_312;
+const LONG_LEN: usize = 1_048_584;
 
 /// Twice the greatest size of a text that is held: up to 65,536 bytes that wait to be written, and a run of 4,096.
 const ROOM: usize = 2 * (65_536 + 4_096);
@@ -72,15 +89,15 @@ fn shown_in(alloc: Global, style: Style, bytes: &[u8]) -> Option<u64> {
     }
 }
 
-/// The text of a list of 4 MiB is written a chunk at a time in each style. The texts are `bytes 4194304 "x..x"`, digits
-/// below `bytes 4194304`, and `{"bytes":"78..78"}`.
+/// The text of a list of 1 MiB is written a chunk at a time in each style. The texts are `bytes 1048576 "x..x"`, digits
+/// below `bytes 1048576`, and `{"bytes":"78..78"}`.
 #[test]
 fn room_for_the_text_of_a_long_list(rt: HostRuntime) -> Result<(), Fail> {
     let message = bare_of(rt.alloc(), LONG, LONG_LEN)?;
     for (style, len) in [
-        (Style::Quoted, 4_194_321u64),
-        (Style::Lines, 8_388_625),
-        (Style::Json, 8_388_621),
+        (Style::Quoted, 1_048_593u64),
+        (Style::Lines, 2_097_169),
+        (Style::Json, 2_097_165),
     ] {
         let shown = shown_in(rt.alloc(), style, message.as_slice());
         assert!(rt; shown == Some(len), "{style:?} {shown:?}");

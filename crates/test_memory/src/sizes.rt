@@ -38,6 +38,11 @@ pub(crate) fn long_list(alloc: Global) -> Result<Vec<u8>, AllocError> {
     segment_of(alloc, 0x10_0005_0000_0001, 131_072)
 }
 
+/// Returns a segment with a list of eight-byte numbers, a quarter of a mebibyte in all.
+fn list_of_a_quarter(alloc: Global) -> Result<Vec<u8>, AllocError> {
+    segment_of(alloc, 0x4_0005_0000_0001, 32_768)
+}
+
 /// Returns a segment with a struct of 65,535 words.
 fn wide_struct(alloc: Global) -> Result<Vec<u8>, AllocError> {
     segment_of(alloc, 0xffff_0000_0000, 65_535)
@@ -62,14 +67,14 @@ fn through_each(rt: &impl Abort, alloc: Global, segment: &[u8]) -> Result<(), Fa
     stream_through_each(rt, alloc, stream.as_slice())
 }
 
-/// Checks each call on the message of `stream`. No allocation may exceed 512 KiB plus eight times the stream's length.
+/// Checks each call on the message of `stream`. No allocation may exceed 256 KiB plus eight times the stream's length.
 pub(crate) fn stream_through_each(
     rt: &impl Abort,
     alloc: Global,
     stream: &[u8],
 ) -> Result<(), Fail> {
     let of = subject_of(alloc, stream)?;
-    let most = stream.len().saturating_mul(8).saturating_add(1 << 19);
+    let most = stream.len().saturating_mul(8).saturating_add(1 << 18);
     for (name, call) in CALLS {
         within(rt, &of, name, call, most);
     }
@@ -77,14 +82,15 @@ pub(crate) fn stream_through_each(
 }
 
 #[test]
-fn a_mebibyte_through_each_call(rt: HostRuntime) -> Result<(), Fail> {
-    let list = long_list(rt.alloc())?;
+fn a_long_list_through_each_call(rt: HostRuntime) -> Result<(), Fail> {
+    let list = list_of_a_quarter(rt.alloc())?;
     through_each(&rt, rt.alloc(), list.as_slice())
 }
 
+/// Each call is checked with a struct of 16,383 words.
 #[test]
 fn a_wide_struct_through_each_call(rt: HostRuntime) -> Result<(), Fail> {
-    let data = wide_struct(rt.alloc())?;
+    let data = segment_of(rt.alloc(), 0x3fff_0000_0000, 16_383)?;
     through_each(&rt, rt.alloc(), data.as_slice())
 }
 
