@@ -60,7 +60,7 @@ run: program
 # The lines of the gate that need no prover, and the lines that need what the gate builds. .ci/README.md says when each
 # fails.
 PAGE_LINES := .ci/lines .ci/docs .ci/borders .ci/cited .ci/toolchain .ci/version .ci/lists .ci/readings \
-	.ci/counts .ci/places release/completions tests/pages/touched tests/pages/words tests/cases \
+	.ci/counts .ci/places tests/named release/completions tests/pages/touched tests/pages/words tests/cases \
 	release/symbols release/manual release/links tests/release/steps
 BUILT_LINES := release/recursion tests/program/statuses tests/program/full-disk tests/program/failures \
 	tests/program/allocations tests/vectors .ci/library release/installs release/glibc

@@ -3,6 +3,8 @@ it."""
 
 import collections
 import concurrent.futures
+import functools
+import glob
 import os
 import re
 import subprocess
@@ -29,6 +31,8 @@ MOST_LINES = 40
 
 # A job of a crate. It has a word for the job, and a function that returns the errors and the output.
 Job = collections.namedtuple("Job", "crate what run")
+# A function that a crate exports. The crate of the calls of c/capn.h is `c`.
+Function = collections.namedtuple("Function", "crate name")
 
 
 def text_of(*parts):
@@ -45,9 +49,9 @@ def tests_of(crate):
     return found
 
 
-def crates_of_calls(crate):
-    """Yields each call of a crate with cases, and the libraries that its answer depends on. These are the libraries
-    that the call's module names, and the libraries that the modules used by it name."""
+def modules_of_calls(crate):
+    """Returns the modules that answer each call of a crate with cases: the module of the call, and the modules
+    that this module uses."""
     folder = os.path.join(TOP, "crates", crate, "src")
     modules = {name[:-3]: text_of("crates", crate, "src", name) for name in os.listdir(folder)}
 
@@ -58,9 +62,15 @@ def crates_of_calls(crate):
                 named(used, seen)
         return seen
 
-    for word, module in re.findall(r'"(\w+)" => (\w+)::', modules["main"]):
-        used = named(module, set())
-        yield word, {name for one in used for name in re.findall(r"^use (capn_\w+)", modules[one], re.M)}
+    return {word: named(module, set()) for word, module in re.findall(r'"(\w+)" => (\w+)::', modules["main"])}
+
+
+def crates_of_calls(crate):
+    """Yields each call of a crate with cases, and the libraries that its answer depends on. These are the libraries
+    that the modules of the call name."""
+    for word, used in modules_of_calls(crate).items():
+        texts = [text_of("crates", crate, "src", f"{one}.rt") for one in used]
+        yield word, {name for text in texts for name in re.findall(r"^use (capn_\w+)", text, re.M)}
 
 
 def try_crate(crate, words, given=b""):
@@ -154,6 +164,69 @@ def cases_job(crate, cases):
         return "\n".join(wrong), said
 
     return Job(crate, f"{len(cases):,} cases", run)
+
+
+def imported(text, crates):
+    """Yields the words that a file imports from these crates, or names by their paths."""
+    for crate, one, several in re.findall(r"^(?:pub )?use (\w+)::(?:([\w:]+)|\{([^}]*)\});", text, re.M):
+        if crate in crates:
+            yield from re.findall(r"\w+", several or one)
+    for crate, word in re.findall(r"\b(\w+)::(\w+)", text):
+        if crate in crates:
+            yield word
+
+
+@functools.cache
+def product():
+    """Returns the crates of the product."""
+    return frozenset(it for it in proving.crates() if it.startswith("capn"))
+
+
+def exported():
+    """Yields each function that a crate of the product exports under its own name, and each call of c/capn.h."""
+    for crate in proving.crates():
+        path = os.path.join("crates", crate, "src", "lib.rt")
+        if crate not in product() or not os.path.exists(os.path.join(TOP, path)):
+            continue
+        for module, names in re.findall(r"^pub use ([\w:]+)::(\{[^}]*\}|\w+);", text_of(path), re.M):
+            if module.split("::")[0] not in product():
+                yield from (Function(crate, name) for name in re.findall(r"\b[a-z]\w*", names))
+    for name in sorted(set(re.findall(r"^[\w *]*?\b(capn_[a-z_]+)\(", text_of("c", "capn.h"), re.M))):
+        yield Function("c", name)
+
+
+@functools.cache
+def words_of_tests():
+    """Returns the path of each file of tests with the words that it imports from the product. A file of tests/c has all
+    its words."""
+    found = {}
+    for crate in proving.crates():
+        if crate.startswith(("test_", "conformance_")) or crate in product() and tests_of(crate):
+            for path in glob.glob(os.path.join(TOP, "crates", crate, "src", "**", "*.rt"), recursive=True):
+                text = text_of(path)
+                if crate not in product() or "#[test]" in text:
+                    found[os.path.relpath(path, TOP)] = frozenset(imported(text, product() | {"crate"}))
+    for path in glob.glob(os.path.join(TOP, "tests", "c", "*.*")):
+        found[os.path.relpath(path, TOP)] = frozenset(re.findall(r"\w+", text_of(path)))
+    return found
+
+
+def naming(function):
+    """Returns the files of tests that name an exported function."""
+    folder = "tests/c/" if function.crate == "c" else "crates/"
+    found = {path for path, words in words_of_tests().items() if function.name in words}
+    return sorted(path for path in found if path.startswith(folder))
+
+
+def jobs_naming(files):
+    """Yields the jobs of these files of tests: the tests of their crates, and the cases that their modules answer."""
+    for crate in sorted({file.split("/")[1] for file in files}):
+        if tests_of(crate):
+            yield tests_job(crate)
+        if crate in stored.CRATES:
+            modules = {os.path.basename(file)[:-3] for file in files if file.split("/")[1] == crate}
+            words = {word for word, used in modules_of_calls(crate).items() if used & modules}
+            yield cases_job(crate, [case for case in stored.cases_of(crate) if stored.word_of(case.call) in words])
 
 
 def workers():

@@ -10,6 +10,8 @@ mod making;
 #[cfg(test)]
 mod pieces;
 #[cfg(test)]
+mod plain_lines;
+#[cfg(test)]
 mod quoted;
 #[cfg(test)]
 mod quoted_room;

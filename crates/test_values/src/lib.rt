@@ -11,6 +11,8 @@ mod layouts;
 #[cfg(test)]
 mod making;
 #[cfg(test)]
+mod pointer_words;
+#[cfg(test)]
 mod same_lists;
 #[cfg(test)]
 mod same_messages;

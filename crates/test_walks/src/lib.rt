@@ -8,6 +8,8 @@ mod counted_calls;
 #[cfg(test)]
 mod depths;
 #[cfg(test)]
+mod figures;
+#[cfg(test)]
 mod indexes;
 #[cfg(test)]
 mod measures;
