@@ -40,6 +40,19 @@ func blocks(t *testing.T, page, language string) []string {
 	return found
 }
 
+// The beginning of a program that reads a message from standard input.
+const reads = `package main
+
+import (
+	"fmt"
+	"io"
+	"os"
+)
+
+func main() {
+	message, _ := io.ReadAll(os.Stdin)
+`
+
 // The programs that call the functions of the page's blocks. A block without such a program is itself a program.
 var callers = []string{
 	"",
@@ -120,33 +133,13 @@ func main() {
 	}
 }
 `,
-	`package main
-
-import (
-	"fmt"
-	"io"
-	"os"
-)
-
-func main() {
-	message, _ := io.ReadAll(os.Stdin)
-	if err := printPerson(message, nil); err != nil {
+	reads + `	if err := printPerson(message, nil); err != nil {
 		fmt.Println(err)
 		os.Exit(1)
 	}
 }
 `,
-	`package main
-
-import (
-	"fmt"
-	"io"
-	"os"
-)
-
-func main() {
-	message, _ := io.ReadAll(os.Stdin)
-	fmt.Println(describe(message, nil))
+	reads + `	fmt.Println(describe(message, nil))
 }
 `,
 }

@@ -12,6 +12,7 @@ from typing import Any, Callable, Iterator, NoReturn
 from ._bytes import copied
 from ._capn import ffi, lib
 from ._refusal import Refusal
+from ._places import Places
 from ._splitter import FRAME_CUT, HEAD, LEAST, OK, ONE, PIECE, Splitter, busy
 
 __all__ = ["Ahead", "Buffered", "Messages", "Raw"]
@@ -27,7 +28,7 @@ _AHEAD = 1 << 18
 _LITTLE = 2048
 
 
-class Messages(Iterator[bytes]):
+class Messages(Places, Iterator[bytes]):
     """The messages of a stream, each with its segment table; `messages` makes it. It goes on after an exception of the
     file, and after one of a signal's handler.
 
@@ -38,7 +39,7 @@ class Messages(Iterator[bytes]):
     `ValueError`, as that of a generator does."""
 
     __slots__ = ("_splitter", "_read", "_report", "_bounds", "_sizes", "_new", "_held", "_need", "_over", "_taken",
-                 "_number", "_offset", "_last", "_is_busy")
+                 "_is_busy")
 
     def __init__(self, read: Callable[[int], Any], splitter: Splitter) -> None:
         self._read, self._splitter = read, splitter
@@ -55,32 +56,9 @@ class Messages(Iterator[bytes]):
         # Of a packed stream, how many bytes came before what is held.
         self._taken = 0
         self._number = self._offset = 0
-        self._last: bytes | None = None
+        self._last = None
         # Whether a call is being made.
         self._is_busy = False
-
-    def __repr__(self) -> str:
-        return f"<capn messages, {self.number} so far>"
-
-    @property
-    def number(self) -> int:
-        """How many messages were returned."""
-        return self._number
-
-    @property
-    def offset(self) -> int:
-        """Where the next one begins, in the unpacked bytes."""
-        return self._offset
-
-    @property
-    def last(self) -> bytes | None:
-        """The message that was returned last, or None."""
-        return self._last
-
-    @property
-    def last_offset(self) -> int | None:
-        """Where the last message began, in the unpacked bytes, or None."""
-        return None if self._last is None else self.offset - len(self._last)
 
     def _is_between(self) -> bool:
         """Whether the file stands between two messages, and has not been refused."""

@@ -19,6 +19,7 @@ from typing import (
 from ._bytes import Buffer, copied
 from ._calls import _USUAL, check, digest
 from ._limits import Limits
+from ._places import Places
 from ._reader import Ahead, Messages
 from ._refusal import Refusal
 from ._seen import reader as _reader_of
@@ -271,12 +272,12 @@ def digests(
     return Outcomes(found, limits, _digest) if keep_going else Digests(found, limits, _digest)
 
 
-class AsyncMessages(AsyncIterator[bytes]):
+class AsyncMessages(Places, AsyncIterator[bytes]):
     """The messages of a stream that is awaited; `amessages` makes it.
 
     One call at a time may use it: while one runs, a second one raises a `ValueError`."""
 
-    __slots__ = ("_splitter", "_read", "_is_ahead", "_piece", "_ready", "_number", "_offset", "_last", "_is_busy")
+    __slots__ = ("_splitter", "_read", "_is_ahead", "_piece", "_ready", "_is_busy")
 
     def __init__(
         self, read: Callable[[int], Awaitable[bytes]], splitter: Splitter, is_ahead: bool = False
@@ -287,32 +288,9 @@ class AsyncMessages(AsyncIterator[bytes]):
         # Messages that are whole, the last one first.
         self._ready: list[bytes] = []
         self._number = self._offset = 0
-        self._last: bytes | None = None
+        self._last = None
         # Whether a call is being made.
         self._is_busy = False
-
-    def __repr__(self) -> str:
-        return f"<capn messages, {self.number} so far>"
-
-    @property
-    def number(self) -> int:
-        """How many messages were returned."""
-        return self._number
-
-    @property
-    def offset(self) -> int:
-        """Where the next one begins, in the unpacked bytes."""
-        return self._offset
-
-    @property
-    def last(self) -> bytes | None:
-        """The message that was returned last, or None."""
-        return self._last
-
-    @property
-    def last_offset(self) -> int | None:
-        """Where the last message began, in the unpacked bytes, or None."""
-        return None if self._last is None else self._offset - len(self._last)
 
     async def __anext__(self) -> bytes:
         if self._is_busy:

@@ -23,16 +23,22 @@ def setup(folder, *words):
                           check=False, text=True)
 
 
+def top_in(folder):
+    """Copies the repository's top, with the library at its place, into a folder. Returns the copy, and what is in its
+    folder python."""
+    top = os.path.join(folder, "top")
+    shutil.copytree(os.path.dirname(SOURCE), top, ignore=shutil.ignore_patterns("build", "*.egg-info"))
+    os.mkdir(os.path.join(top, "build"))
+    shutil.copy(os.environ["CAPN_ARCHIVE"], os.path.join(top, "build", "libcapn.a"))
+    return top, set(os.listdir(os.path.join(top, "python")))
+
+
 @unittest.skipUnless(SOURCE, "there is no copy of the sources: tests/python/run makes one")
 class Sources(unittest.TestCase):
     def test_a_source_distribution_builds_alone(self):
         with tempfile.TemporaryDirectory() as folder:
-            # The top of the repository, with the library in its place.
-            top = os.path.join(folder, "top")
-            shutil.copytree(os.path.dirname(SOURCE), top, ignore=shutil.ignore_patterns("build", "*.egg-info"))
-            os.mkdir(os.path.join(top, "build"))
-            shutil.copy(os.environ["CAPN_ARCHIVE"], os.path.join(top, "build", "libcapn.a"))
-            here, before = os.path.join(top, "python"), set(os.listdir(os.path.join(top, "python")))
+            top, before = top_in(folder)
+            here = os.path.join(top, "python")
             ran = setup(here, "sdist", "--dist-dir", os.path.join(folder, "dist"))
             self.assertEqual(ran.returncode, 0, ran.stderr)
             self.assertEqual(set(os.listdir(here)) - before, {"capn.egg-info"})
@@ -64,11 +70,8 @@ class Sources(unittest.TestCase):
         except ImportError:
             self.skipTest("there is no Python module wheel")
         with tempfile.TemporaryDirectory() as folder:
-            top = os.path.join(folder, "top")
-            shutil.copytree(os.path.dirname(SOURCE), top, ignore=shutil.ignore_patterns("build", "*.egg-info"))
-            os.mkdir(os.path.join(top, "build"))
-            shutil.copy(os.environ["CAPN_ARCHIVE"], os.path.join(top, "build", "libcapn.a"))
-            here, before = os.path.join(top, "python"), set(os.listdir(os.path.join(top, "python")))
+            top, before = top_in(folder)
+            here = os.path.join(top, "python")
             ran = setup(here, "bdist_wheel", "--dist-dir", os.path.join(folder, "dist"))
             self.assertEqual(ran.returncode, 0, ran.stderr)
             self.assertLessEqual(set(os.listdir(here)) - before, {"capn.egg-info", "build"})

@@ -1,0 +1,37 @@
+"""What a stream says of the messages that it returned."""
+from __future__ import annotations
+
+__all__ = ["Places"]
+
+
+class Places:
+    """How many messages were returned, and where the last and the next one begin."""
+
+    __slots__ = ("_number", "_offset", "_last")
+
+    _number: int
+    _offset: int
+    _last: bytes | None
+
+    def __repr__(self) -> str:
+        return f"<capn messages, {self.number} so far>"
+
+    @property
+    def number(self) -> int:
+        """How many messages were returned."""
+        return self._number
+
+    @property
+    def offset(self) -> int:
+        """Where the next one begins, in the unpacked bytes."""
+        return self._offset
+
+    @property
+    def last(self) -> bytes | None:
+        """The message that was returned last, or None."""
+        return self._last
+
+    @property
+    def last_offset(self) -> int | None:
+        """Where the last message began, in the unpacked bytes, or None."""
+        return None if self._last is None else self.offset - len(self._last)
