@@ -1,5 +1,8 @@
 //! `answer_each`: answers a case with enough memory, and then with each allocation of its call refused in turn.
 
+ghost use Rattle.std.specs.Prelude.{◌≡◌, ◌++◌, codes, IfOk, string_bytes};
+ghost use Rattle.hex.specs.Hex.{encode_lower};
+
 use anyhow::{Result, bail};
 use std::alloc::Global;
 use test_allocator::Refusing;
@@ -17,7 +20,9 @@ pub trait Answers {
 }
 
 /// Returns the answer for a call that had an allocation refused: the bytes `written` before, and `MEMORY`.
-pub fn cut_short(alloc: Global, written: &[u8]) -> Result<String> {
+pub fn cut_short(alloc: Global, written: &[u8]) -> Result<String>
+    ensures { IfOk result (λ text. string_bytes text ≡ encode_lower written.now ++ codes "Memory") }
+{
     let digits = hex::encode(alloc, written)?;
     Ok(format!(in alloc; "{digits}{MEMORY}")?)
 }
