@@ -7,8 +7,8 @@ use Rattle.std.proofs.KnownBytes.{Appends-trans}
 use Rattle.capn_words.specs.Watched.{HasBegun}
 use Rattle.capn_serve.specs.Line.{Goes, Says, WritesLine, way}
 
-pub begun_behind : (start now new : Option (List ℕ)) (front part : List ℕ) → Appends start now front → HasBegun now new part
-    → HasBegun start new (front ++ part)
+pub begun_behind : (start now new : Option (List ℕ)) (front part : List ℕ) → Appends start now front
+    → HasBegun now new part → HasBegun start new (front ++ part)
 begun_behind start now new front part before (count, wrote) = (
   length front + count,
   rw (take-append-add front part count)

@@ -18,7 +18,8 @@ pub returns-in_err-write_all-2 : goal.returns-in_err-write_all-2
 returns-in_err-write_all-2 g c =
     let sent = c.in_ok-write_all.ensures in
     let wrote = c.in_err-write_all-2.ensures in
-    let p = err_from_is_err_and c.from_residual-in_err-write_all-2.result c.from_residual-in_err-write_all-2.ensures.1 in
+    let p =
+    err_from_is_err_and c.from_residual-in_err-write_all-2.result c.from_residual-in_err-write_all-2.ensures.1 in
     rw (p.1, p.2) (
       refl,
       begun_behind _ _ _ c.args.text.now.items c.args.bytes.now (rw c.deref.ensures.value at sent.ok) wrote.begun,
