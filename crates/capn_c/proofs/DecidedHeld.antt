@@ -22,6 +22,7 @@ use Rattle.capn_c.specs.Figures.{reported_cap}
 use Rattle.capn_c.specs.Held.{AnswersHeld, FiguresHeld, IsMisheld, IsRefusedHeld, IsUnacceptedHeld, SurveysHeld}
 use Rattle.capn_c.specs.declared.figures.CapnFigures.{CapnFigures}
 use Rattle.capn_c.proofs.Decided.{IsTold, WrongLimits, agreed, kinds_limits, reported_by, told_limits}
+use Rattle.capn_c.proofs.HeldRuns.{held_not_misheld}
 use Rattle.capn_c.proofs.OutOfMemory.{unaccepted_held_refused}
 
 -- ---- one refusal of segments
@@ -54,15 +55,6 @@ misheld_same m most x y (inr (inr h)) (inr (inl k)) =
     let a = k.2 in let b = k.3 in let d = h.3 in absurd (omega arith)
 misheld_same m most x y (inr (inr h)) (inr (inr k)) =
     h.1 ∙ ap (λ (n : ℕ). frame.TooManyWords n) (h.4 ∙ sym k.4) ∙ sym k.1
-
-held_not_misheld : (m : List (List ℕ)) (most : ℕ) (x : FrameFault) → IsHeld m most → IsMisheld m most x → ⊥
-held_not_misheld m most frame.Empty h k = let a = h.some in absurd (omega (arith, k))
-held_not_misheld m most (frame.TooManySegments n) h k =
-    let a = h.few in let b = k.0 in let d = k.1 in absurd (omega arith)
-held_not_misheld m most (frame.TooManyWords n) h k = let a = h.room in let b = k.2 in absurd (omega arith)
-held_not_misheld m most frame.Memory h k = k
-held_not_misheld m most frame.Cut h k = k
-held_not_misheld m most frame.Failed h k = k
 
 -- `e` says why the segments of `m` are no message, or why the message has no canonical bytes.
 abbrev HeldPart : List (List ℕ) → Bounds → Refusal → Type 0

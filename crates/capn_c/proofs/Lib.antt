@@ -11,8 +11,10 @@ pub mod Delivered
 pub mod Digests
 pub mod Entered
 pub mod Figured
+pub mod FiguresTold
 pub mod Filled
 pub mod Framed
+pub mod HeldRuns
 pub mod Indexed
 pub mod Least
 pub mod Lent
@@ -20,11 +22,11 @@ pub mod Listed
 pub mod OfMessage
 pub mod OneBare
 pub mod OutOfMemory
-pub mod PackedText
+pub mod PathTold
 pub mod Placed
 pub mod Ready
 pub mod Reported
+pub mod Runs
 pub mod Short
 pub mod Shown
 pub mod Unpacked
-pub mod PathTold

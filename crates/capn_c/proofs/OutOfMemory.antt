@@ -1,12 +1,11 @@
 -- Only `Memory` has the status 8: no other refusal of bytes or of a message has that status. (For `canonical_call.rt`,
 -- `canonical_fill.rt`, `canonical_segments_call.rt` and others.)
-use Rattle.std.proofs.Common.{rules, ◌≡◌, ◌⊎◌, inl, inr, ℕ, ◌+◌, ◌<◌, List, length, refl, arith}
+use Rattle.std.proofs.Common.{rules, ◌≡◌, ℕ, ◌<◌, List, length, refl, ap, arith}
 use Rattle.capn_words.specs.declared.bare.BareFault.{BareFault}
 use Rattle.capn_pack.specs.declared.fault.UnpackFault.{UnpackFault}
 use Rattle.capn_pack.specs.declared.fault.UnpackFault.TheVariants as packed
 use Rattle.capn_stream.specs.declared.fault.FrameFault.{FrameFault}
 use Rattle.capn_stream.specs.declared.fault.FrameFault.TheVariants as frame
-use Rattle.capn_stream.specs.Frames.{most_table_words}
 use Rattle.capn_stream.specs.FrameRefusal.{most_few}
 use Rattle.capn_stream.proofs.shared.FrameLaws.{announces, stands_alone, whole_of}
 use Rattle.capn_target.specs.declared.target.Fault.{Fault}
@@ -20,9 +19,9 @@ use Rattle.capn_canon.specs.declared.form.Form.TheVariants as forms
 use Rattle.capn_canon.specs.declared.refusal.Refusal.{Refusal}
 use Rattle.capn_canon.specs.declared.refusal.Refusal.TheVariants as refusals
 use Rattle.capn_canon.specs.Refusal.{IsRefused, IsUnaccepted, IsUnacceptedIn}
-use Rattle.capn_canon.specs.MemoryNeed.{MayNeedBytesIn, MayNeedMemory}
+use Rattle.capn_canon.specs.MemoryNeed.{MayNeedMemory}
 use Rattle.capn_canon.specs.Reads.{Reads}
-use Rattle.capn_canon.proofs.shared.MemoryNeeds.{starts_within}
+use Rattle.capn_canon.proofs.shared.MemoryNeeds.{packed_wanted}
 use Rattle.capn_c.specs.Held.{IsMisheld, IsRefusedHeld, IsUnacceptedHeld}
 use Rattle.capn_abi.specs.StatusCodes.{bare_code, packed_code, frame_code, walk_code, code}
 
@@ -99,24 +98,17 @@ message_memory m l (refusals.Packed e) h c = absurd h
 
 -- ---- memory that may be needed
 
-pub flat_packed : (f : Form) → (f ≡ forms.Stream) ⊎ (f ≡ forms.Bare) → f ≡ forms.Packed → ⊥
-flat_packed f (inl a) b = cc
-flat_packed f (inr a) b = cc
-
-pub many_need : (bs : List ℕ) (limits : Bounds) (m : List (List ℕ)) → Reads forms.Stream bs limits.message_words m
+many_need : (bs : List ℕ) (limits : Bounds) (m : List (List ℕ)) → Reads forms.Stream bs limits.message_words m
     → most_few < length m → MayNeedMemory forms.Stream bs limits
 many_need bs limits m reads many =
     let first = stands_alone bs limits.message_words m reads.frame reads.room in
     let count = (announces bs limits.message_words m (length bs) first).count in
     (whole_of bs limits.message_words m (length bs) first, omega (arith, count, many))
 
-pub packed_need : (f : Form) (bs : List ℕ) (limits : Bounds) → f ≡ forms.Packed → MayNeedBytesIn f bs limits
-    → MayNeedMemory f bs limits
-packed_need forms.Packed bs limits is (inl h) = h
-packed_need forms.Packed bs limits is (inr (v, d, free)) =
-    let (stream, u, reads) = d.reads in
-    let first = stands_alone stream limits.message_words d.message reads.frame reads.room in
-    let some = (whole_of stream limits.message_words d.message (length stream) first).0.0.0 in
-    starts_within bs stream (limits.message_words + most_table_words) u.packs (omega (arith, some)) u.room
-packed_need forms.Stream bs limits is h = absurd cc
-packed_need forms.Bare bs limits is h = absurd cc
+-- If `bs` are read as a message of more than 64 segments, reading `bs` may need memory.
+pub many_needed : (form : Form) (bs : List ℕ) (limits : Bounds) (m : List (List ℕ))
+    → Reads form bs limits.message_words m → most_few < length m → MayNeedMemory form bs limits
+many_needed forms.Stream bs limits m reads many = many_need bs limits m reads many
+many_needed forms.Packed bs limits m (text, u, reads) many =
+    packed_wanted bs text limits u (many_need text limits m reads many)
+many_needed forms.Bare bs limits m (ws, is, same) many = absurd (omega (arith, ap length same, many))

@@ -2,3 +2,4 @@
 pub mod Told
 pub mod Lent
 pub mod Reported
+pub mod RunHeld

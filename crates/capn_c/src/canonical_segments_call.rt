@@ -11,10 +11,10 @@ ghost use Rattle.capn_stream.specs.Segments.{message_of};
 ghost use Rattle.capn_abi.specs.Calls.{GiveLimits, IsTariff, bounds_of, Serves};
 ghost use Rattle.capn_c.specs.Held.{AnswersHeld, DenotesHeld, IsRefusedHeld};
 ghost use Rattle.capn_abi.specs.StatusCodes.{Reports, answered, at_number, is_status};
-ghost use Rattle.capn_c.specs.inner.Reported.{IsFilled, IsReported};
+ghost use Rattle.capn_c.specs.inner.Reported.{IsReported};
 
-use crate::held_message::{held, survey_held};
-use crate::written_message::write_message;
+use crate::canonical_fill::fill_held;
+use crate::held_message::survey_held;
 use capn_abi::{CapnLimits, CapnReport, NO_ROOM, answer_of, limits_of, refuse, report_at};
 use capn_canon::Refusal;
 use capn_walk::Limits;
@@ -45,22 +45,6 @@ fn held_length(
                 NO_ROOM
             }
         },
-        Err(refusal) => refuse(refusal, report),
-    }
-}
-
-/// Writes the canonical bytes of the message that is held in `segments` to `out`, and reports the result.
-fn fill_held(
-    segments: &[&[[u8; 8]]],
-    limits: Limits,
-    out: &mut [u8],
-    report: &mut CapnReport,
-) -> u32
-    ensures { IsFilled (DenotesHeld (message_of segments.now) limits) (AnswersHeld (message_of segments.now) limits)
-        (IsRefusedHeld (message_of segments.now) limits) ⊥ limits out.old out.new result report.new }
-{
-    match held(segments, limits) {
-        Ok(message) => write_message(&message, limits, out, report),
         Err(refusal) => refuse(refusal, report),
     }
 }
@@ -122,7 +106,7 @@ pub extern "C" fn capn_canonical_segments(
             if out.is_empty() {
                 return held_length(alloc, segments, limits, report);
             }
-            fill_held(segments, limits, out, report)
+            fill_held(alloc, segments, limits, out, report)
         }
         Err(status) => status,
     }

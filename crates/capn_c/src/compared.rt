@@ -4,18 +4,15 @@ ghost use Rattle.std.specs.Prelude.{IfOk, IfErr, IsErrOf};
 ghost use Rattle.capn_canon.specs.CanonicalLength.{HasBytes};
 ghost use Rattle.capn_canon.specs.MemoryNeed.{MayNeedMemory};
 ghost use Rattle.capn_canon.specs.Refusal.{IsPaidWithin, IsRefused};
-ghost use Rattle.capn_canon.specs.declared.form.Form.TheVariants as forms;
 ghost use Rattle.capn_canon.specs.declared.refusal.Refusal.TheVariants as refusals;
 ghost use Rattle.capn_c.specs.inner.Told.{IsCompared, IsComparedTo, IsSameTo, IsSecondTold, IsToldOf};
 
-use crate::frame::read_frame;
 use crate::same_surveyed::same_surveyed;
 use capn_canon::{Form, MessageTask, Refusal, run_task, survey};
-use capn_pack::unpack;
-use capn_stream::MOST_TABLE_WORDS;
 use capn_walk::Limits;
-use capn_words::{Bare, Space};
+use capn_words::Space;
 use std::alloc::Global;
+use std::marker::Model;
 
 /// Surveys `message` within `limits`. Refuses a message without canonical bytes.
 fn survey_free<S: Space>(alloc: Global, message: &S, limits: Limits) -> Result<(), Refusal>
@@ -42,36 +39,44 @@ fn same_message<A: Space, B: Space>(
     Ok(same_surveyed(first, second, limits))
 }
 
-/// Tests whether the message in the frame `bytes` has the value of `first`. Refuses bytes that are no frame, and bytes
-/// that go on after the frame. Memory is allocated only for a frame of more than 64 segments.
-fn same_frame<A: Space>(
-    alloc: Global,
-    first: &A,
-    bytes: &[u8],
+/// The task of `same_in`: tests whether the second message has the value of `first`, which has canonical bytes within
+/// `limits`.
+#[derive(Drop)]
+struct Second<'f, A: Space> {
+    first: &'f A,
     limits: Limits,
-) -> Result<bool, Refusal>
-    requires first { HasBytes (A.message first.now) limits }
-    ensures { IsSecondTold (A.message first.now) forms.Stream bytes.now limits result }
-{
-    let second = read_frame(alloc, bytes, limits)?;
-    same_message(alloc, first, &second, limits)
 }
 
-/// Unpacks the packed text `bytes` to a frame, and tests whether the message in that frame has the value of `first`.
-fn same_packed<A: Space>(
-    alloc: Global,
-    first: &A,
-    bytes: &[u8],
-    limits: Limits,
-) -> Result<bool, Refusal>
-    requires first { HasBytes (A.message first.now) limits }
-    ensures { IsSecondTold (A.message first.now) forms.Packed bytes.now limits result }
-{
-    let stream = unpack(alloc, bytes, limits.message_words() + MOST_TABLE_WORDS)?;
-    same_frame(alloc, first, stream.as_slice(), limits)
+impl<'f, A: Space> Model for Second<'f, A> {
+    ghost use Rattle.std.specs.Prelude.{ℕ, List};
+    ghost use Rattle.capn_walk.specs.Limits.{Bounds};
+    ghost use Rattle.capn_canon.specs.CanonicalLength.{HasBytes};
+
+    ghost Value = { List (List ℕ) × Bounds };
+
+    ghost view = { λ s. (A.message s.first.now, s.limits) };
+
+    ghost invariant = { λ s. HasBytes (A.message s.first.now) s.limits };
 }
 
-/// Tests whether the message that `bytes` encode in `form` has the value of `first`.
+impl<'f, A: Space> MessageTask<Global> for Second<'f, A> {
+    /// Whether the values are the same.
+    type Answer = bool;
+
+    ghost answers = { λ task m _ r _. IsToldOf m task.1 (λ same. IsSameTo task.0 m task.1 same) r };
+
+    fn run<S: Space>(
+        &mut self,
+        alloc: Global,
+        message: &S,
+        _limits: Limits,
+    ) -> Result<bool, Refusal> {
+        same_message(alloc, self.first, message, self.limits)
+    }
+}
+
+/// Tests whether the message that `bytes` encode in `form` has the value of `first`. Memory is allocated only for a
+/// packed text, and for a frame of more than 64 segments.
 fn same_in<A: Space>(
     alloc: Global,
     first: &A,
@@ -82,11 +87,8 @@ fn same_in<A: Space>(
     requires first { HasBytes (A.message first.now) limits }
     ensures { IsSecondTold (A.message first.now) form bytes.now limits result }
 {
-    match form {
-        Form::Stream => same_frame(alloc, first, bytes, limits),
-        Form::Packed => same_packed(alloc, first, bytes, limits),
-        Form::Bare => same_message(alloc, first, &Bare::new(bytes)?, limits),
-    }
+    let mut task = Second { first, limits };
+    run_task(alloc, &mut task, form, bytes, limits)
 }
 
 /// The task of `compared_in`: compares a first message with the message that `second` encodes in `form`. `second` isn't

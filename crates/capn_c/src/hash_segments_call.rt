@@ -14,10 +14,9 @@ ghost use Rattle.capn_c.specs.Held.{AnswersHeld, DenotesHeld, IsRefusedHeld};
 ghost use Rattle.capn_abi.specs.StatusCodes.{Reports, answered, at_number, is_status};
 ghost use Rattle.capn_c.specs.inner.Reported.{IsReported};
 
-use crate::held_message::canonical_held;
+use crate::message_digest::digest_held;
 use capn_abi::{CapnLimits, CapnReport, DONE, answer_of, limits_of, refuse, report_at};
 use capn_walk::Limits;
-use sha2::{Digest, Sha256};
 use std::alloc::Global;
 
 /// Writes the SHA-256 of the canonical bytes of the message that is held in `segments` to `digest`, and reports the
@@ -39,10 +38,11 @@ fn hash_held(
         (MayNeedBytes (message_of segments.now) limits) limits.budget result report.new }
     ensures kept { result ≢ 0 → digest.new ≡ digest.old }
 {
-    match canonical_held(alloc, segments, limits) {
-        Ok(canonical) => {
-            *report = answer_of(0, canonical.paid, 0);
-            *digest = Sha256::digest(canonical.bytes.as_slice());
+    match digest_held(alloc, segments, limits) {
+        Ok(found) => {
+            *report = answer_of(0, found.paid, 0);
+            let sum = found.digest;
+            *digest = sum;
             DONE
         }
         Err(refusal) => refuse(refusal, report),

@@ -8,7 +8,6 @@ ghost use Rattle.capn_canon.specs.Denotes.{Denotes};
 ghost use Rattle.capn_canon.specs.Refusal.{IsUnacceptedIn};
 ghost use Rattle.capn_canon.specs.SurveyedBytes.{Surveys};
 ghost use Rattle.capn_canon.specs.MemoryNeed.{MayNeedMemory};
-ghost use Rattle.capn_canon.specs.declared.form.Form.TheVariants as forms;
 ghost use Rattle.capn_canon.specs.declared.refusal.Refusal.{Refusal as Refusals};
 ghost use Rattle.capn_abi.specs.Calls.{form_named, GiveLimits, IsTariff, bounds_of};
 ghost use Rattle.capn_abi.specs.StatusCodes.{Reports, answered, at_number, is_status};
@@ -17,15 +16,14 @@ ghost use Rattle.capn_abi.specs.Calls.{IsFlat};
 ghost use Rattle.capn_c.specs.inner.Reported.{IsIndexedIn};
 
 use crate::entries::CapnEntry;
-use crate::message_index::{index_bare, index_frame};
-use capn_abi::{BAD_FORM, CapnLimits, CapnReport, flat_form_of, limits_of, refuse, report_at};
-use capn_canon::{Form, Refusal};
+use crate::message_index::fill_index;
+use capn_abi::{BAD_FORM, CapnLimits, CapnReport, flat_form_of, limits_of, report_at};
+use capn_canon::Form;
 use capn_walk::Limits;
 use capn_walk::laws::indexes;
 use std::alloc::Global;
 
-/// Writes to `out` the index of the message that `bytes` encode in `form`, and reports the result. The form is not
-/// packed.
+/// Writes to `out` the index of the message that `bytes` encode in `form`, and reports the result.
 fn index_in(
     alloc: Global,
     form: Form,
@@ -34,17 +32,13 @@ fn index_in(
     out: &mut [CapnEntry],
     report: &mut CapnReport,
 ) -> u32
-    requires { (form ≡ forms.Stream) ⊎ (form ≡ forms.Bare) }
     ensures indexed { IsIndexedIn form bytes.now limits (MayNeedMemory form bytes.now limits) out.old out.new result
         report.new }
     ensures entries { result ≤ 1 → HasEntries form bytes.now limits report.new.visits }
 {
+    // The proof of `entries` needs this law.
     indexes();
-    match form {
-        Form::Stream => index_frame(alloc, bytes, limits, out, report),
-        Form::Bare => index_bare(alloc, bytes, limits, out, report),
-        Form::Packed => refuse(Refusal::Memory, report),
-    }
+    fill_index(alloc, form, bytes, limits, out, report)
 }
 
 /// Writes to `out` the index of the message that `bytes` encode in `form`, within `limits`. The form is a stream or

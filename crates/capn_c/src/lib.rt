@@ -25,7 +25,6 @@ mod departure_call;
 mod entries;
 mod figures;
 mod first_call;
-mod frame;
 mod frame_need;
 mod hash_call;
 mod hash_segments_call;

@@ -1,4 +1,4 @@
-//! The digest of the canonical bytes of a message in any form. A canonical message is hashed in place.
+//! The digest of the canonical bytes of a message, in any form or in segments. A canonical message is hashed in place.
 
 ghost use Rattle.std.specs.Prelude.{◌≡◌, ◌≤◌, ℕ, List, None, IfSome, IfOk, IfErr, IsErrOf, MatchResult};
 ghost use Rattle.sha2.specs.Sha256.{sha256};
@@ -6,11 +6,15 @@ ghost use Rattle.capn_value.specs.Tree.{Tree as Value};
 ghost use Rattle.capn_walk.specs.Accepted.{IsValueOf};
 ghost use Rattle.capn_canon.specs.Denotes.{Answers, AnswersMessage};
 ghost use Rattle.capn_canon.specs.Measure.{IsCanonicalOf};
+ghost use Rattle.capn_canon.specs.MemoryNeed.{MayNeedBytes};
 ghost use Rattle.capn_canon.specs.Refusal.{IsPaidWithin, IsRefused};
 ghost use Rattle.capn_canon.specs.declared.refusal.Refusal.TheVariants as refusals;
+ghost use Rattle.capn_stream.specs.Segments.{message_of};
+ghost use Rattle.capn_c.specs.Held.{AnswersHeld, IsRefusedHeld};
 ghost use Rattle.capn_c.specs.MadeBytes.{MayNeedToMake};
 ghost use Rattle.capn_c.specs.inner.Told.{IsDigestTold};
 
+use crate::held_message::run_held;
 use capn_canon::{Form, MessageTask, Refusal, canonical_of, own_canonical, run_task};
 use capn_walk::Limits;
 use capn_words::Space;
@@ -41,7 +45,7 @@ fn digest_in_place<S: Space>(space: &S, limits: Limits) -> Option<Digested>
     })
 }
 
-/// The task of `digest_in`, which makes canonical bytes only if the message is not canonical.
+/// The task of `digest_in` and `digest_held`, which makes canonical bytes only if the message is not canonical.
 #[derive(Clone, Copy)]
 struct Hash;
 
@@ -86,4 +90,21 @@ pub fn digest_in(
     ensures bounded { MatchResult result (λ d. d.paid ≤ limits.budget) (λ e. IsPaidWithin limits.budget e) }
 {
     run_task(alloc, &mut Hash, form, bytes, limits)
+}
+
+/// Returns the digest of the canonical bytes of the message that is held in `segments`, within `limits`. Segments that
+/// are no message, and a message without canonical bytes, are refused. Memory is allocated on `alloc` only for the
+/// canonical bytes of a message that is not canonical.
+pub fn digest_held(
+    alloc: Global,
+    segments: &[&[[u8; 8]]],
+    limits: Limits,
+) -> Result<Digested, Refusal>
+    ensures found { IfOk result (λ d. (text : List ℕ) × AnswersHeld (message_of segments.now) limits text d.paid
+        × (d.digest ≡ sha256 text)) }
+    ensures refused { IfErr result (λ e. IsRefusedHeld (message_of segments.now) limits e) }
+    ensures memory { IsErrOf result refusals.Memory → MayNeedBytes (message_of segments.now) limits }
+    ensures bounded { MatchResult result (λ d. d.paid ≤ limits.budget) (λ e. IsPaidWithin limits.budget e) }
+{
+    run_held(alloc, &mut Hash, segments, limits)
 }

@@ -1,36 +1,36 @@
-//! The function `figures_in`, which finds the figures of a message in any of the three forms.
+//! The task that finds the figures of a message, and its runs on bytes in any form and on segments.
 
-ghost use Rattle.capn_canon.specs.Refusal.{IsUnacceptedIn};
 ghost use Rattle.capn_canon.specs.MemoryNeed.{MayNeedMemory};
-ghost use Rattle.capn_canon.specs.declared.form.Form.TheVariants as forms;
-ghost use Rattle.capn_c.specs.Figures.{FiguresIn};
+ghost use Rattle.capn_canon.specs.Refusal.{IsUnaccepted, IsUnacceptedIn};
+ghost use Rattle.capn_stream.specs.Segments.{message_of};
+ghost use Rattle.capn_c.specs.Figures.{AreFigures, FiguresIn};
+ghost use Rattle.capn_c.specs.Held.{FiguresHeld, IsUnacceptedHeld};
 ghost use Rattle.capn_c.specs.inner.Told.{AreFiguresTold};
 
 use crate::figures::{CapnFigures, figures_of};
-use crate::frame::read_frame;
-use capn_canon::{Form, Refusal};
-use capn_pack::unpack;
-use capn_stream::MOST_TABLE_WORDS;
+use crate::held_message::run_held;
+use capn_canon::{Form, MessageTask, Refusal, run_task};
 use capn_walk::Limits;
-use capn_words::Bare;
+use capn_words::Space;
 use std::alloc::Global;
 
-/// Returns the figures of the message in the frame `bytes`. Only a frame of more than 64 segments needs memory.
-fn figures_of_frame(alloc: Global, bytes: &[u8], limits: Limits) -> Result<CapnFigures, Refusal>
-    ensures { AreFiguresTold (FiguresIn forms.Stream bytes.now limits) (IsUnacceptedIn forms.Stream bytes.now limits)
-        (MayNeedMemory forms.Stream bytes.now limits) limits.budget result }
-{
-    let message = read_frame(alloc, bytes, limits)?;
-    figures_of(alloc, &message, limits)
-}
+/// The task of `figures_in` and `figures_held`: finds the figures of the message that was read.
+#[derive(Clone, Copy)]
+struct Measure;
 
-/// Returns the figures of the message in the frame that the packed text `bytes` unpacks to.
-fn figures_of_packed(alloc: Global, bytes: &[u8], limits: Limits) -> Result<CapnFigures, Refusal>
-    ensures { AreFiguresTold (FiguresIn forms.Packed bytes.now limits) (IsUnacceptedIn forms.Packed bytes.now limits)
-        (MayNeedMemory forms.Packed bytes.now limits) limits.budget result }
-{
-    let stream = unpack(alloc, bytes, limits.message_words() + MOST_TABLE_WORDS)?;
-    figures_of_frame(alloc, stream.as_slice(), limits)
+impl MessageTask<Global> for Measure {
+    type Answer = CapnFigures;
+
+    ghost answers = { λ _ m lim r _. AreFiguresTold (AreFigures m lim) (IsUnaccepted m lim) ⊥ lim.budget r };
+
+    fn run<S: Space>(
+        &mut self,
+        alloc: Global,
+        message: &S,
+        limits: Limits,
+    ) -> Result<CapnFigures, Refusal> {
+        figures_of(alloc, message, limits)
+    }
 }
 
 /// Returns the figures of the message that `bytes` encode in `form`, within `limits`. Bytes that are no message, and a
@@ -47,9 +47,18 @@ pub fn figures_in(
     ensures { AreFiguresTold (FiguresIn form bytes.now limits) (IsUnacceptedIn form bytes.now limits)
         (MayNeedMemory form bytes.now limits) limits.budget result }
 {
-    match form {
-        Form::Stream => figures_of_frame(alloc, bytes, limits),
-        Form::Packed => figures_of_packed(alloc, bytes, limits),
-        Form::Bare => figures_of(alloc, &Bare::new(bytes)?, limits),
-    }
+    run_task(alloc, &mut Measure, form, bytes, limits)
+}
+
+/// Returns the figures of the message that is held in `segments`, within `limits`. Segments that are no message, and a
+/// message that is not accepted, are refused. No memory is allocated.
+pub fn figures_held(
+    alloc: Global,
+    segments: &[&[[u8; 8]]],
+    limits: Limits,
+) -> Result<CapnFigures, Refusal>
+    ensures { AreFiguresTold (FiguresHeld (message_of segments.now) limits)
+        (IsUnacceptedHeld (message_of segments.now) limits) ⊥ limits.budget result }
+{
+    run_held(alloc, &mut Measure, segments, limits)
 }

@@ -1,24 +1,22 @@
-//! The index of a stream or of bare words, written into the caller's entries.
+//! The task that writes the index of a message into the caller's entries, and its run on bytes in any form.
 
 ghost use Rattle.std.specs.Prelude.{◌≡◌, ◌<◌, ◌*◌, length, false};
-ghost use Rattle.capn_stream.specs.FrameRefusal.{head_length, most_few};
+ghost use Rattle.capn_stream.specs.FrameRefusal.{most_few};
 ghost use Rattle.capn_walk.specs.Accepted.{IsValueOf};
 ghost use Rattle.capn_walk.specs.Surveyed.{IsSurvey};
 ghost use Rattle.capn_canon.specs.MemoryNeed.{MayNeedMemory};
 ghost use Rattle.capn_canon.specs.Refusal.{IsUnaccepted};
-ghost use Rattle.capn_canon.specs.declared.form.Form.TheVariants as forms;
-ghost use Rattle.capn_c.specs.Entries.{starts_from};
+ghost use Rattle.capn_c.specs.Entries.{starts_from, table_length};
 ghost use Rattle.capn_abi.specs.StatusCodes.{answered};
 ghost use Rattle.capn_c.specs.inner.Reported.{HasRoom, IsIndex, IsIndexOr, IsIndexed, IsIndexedIn};
 
 use crate::entries::{CapnEntry, Offsets, put_starts};
-use crate::frame::read_frame;
 use capn_abi::{CapnReport, DONE, NO_ROOM, answer_of, refuse};
-use capn_canon::{Refusal, survey};
+use capn_canon::{Form, MessageTask, Refusal, run_task, survey};
 use capn_stream::table::head_of;
 use capn_walk::laws::indexes;
 use capn_walk::{Limits, Surveyed, index_into_form};
-use capn_words::{Bare, Space};
+use capn_words::Space;
 use std::alloc::Global;
 
 /// Writes the index of the accepted message `space` to `out`, which is long enough for the index. The offsets count
@@ -122,43 +120,79 @@ fn index_message<S: Space>(
     }
 }
 
-/// Returns the number of bytes that the segment table of the message `space` takes in a stream.
-fn table_of<S: Space>(space: &S) -> u32
-    ensures { result ≡ head_length (length (S.message space.now)) }
+/// Returns the number of bytes before the words of the message `space` in `form`: those of the segment table in a
+/// stream.
+fn table_of<S: Space>(form: Form, space: &S) -> u32
+    ensures { result ≡ table_length form (S.message space.now) }
 {
-    head_of(space.segments() as usize) as u32
+    match form {
+        Form::Stream => head_of(space.segments() as usize) as u32,
+        Form::Packed | Form::Bare => 0,
+    }
 }
 
-/// Writes the index of the message in the frame `bytes` to `out`, within `limits`. Fills in `report`, and returns the
-/// status. Memory is allocated on `alloc` only for a frame of more than 64 segments.
-pub fn index_frame(
+/// The task of `fill_index`: writes the index of the message that was read to the caller's entries, and reports the
+/// result.
+#[derive(Drop)]
+struct WriteIndex<'o> {
+    /// The form in which the message is read.
+    form: Form,
+    /// The caller's entries.
+    out: &'o mut [CapnEntry],
+    /// The caller's report.
+    report: &'o mut CapnReport,
+}
+
+impl MessageTask<Global> for WriteIndex<'_> {
+    /// The status.
+    type Answer = u32;
+
+    ghost use Rattle.std.specs.Prelude.{◌≡◌};
+    ghost use Rattle.capn_c.specs.inner.Reported.{IsIndexedOf};
+
+    ghost answers = { λ task m limits r after.
+        ((after.out.ghost_name ≡ task.out.ghost_name) × (after.report.ghost_name ≡ task.report.ghost_name))
+        × IsIndexedOf task.form m limits task.out.now after.out.now after.report.now r };
+
+    fn run<S: Space>(
+        &mut self,
+        alloc: Global,
+        message: &S,
+        limits: Limits,
+    ) -> Result<u32, Refusal> {
+        let table = table_of(self.form, message);
+        Ok(index_message(alloc, message, limits, table, self.out, self.report))
+    }
+}
+
+/// Runs `task` on the message that `bytes` encode in the form of `task`. Reports bytes that are no message, too.
+/// Returns the status.
+fn run_index(alloc: Global, task: &mut WriteIndex<'_>, bytes: &[u8], limits: Limits) -> u32
+    ensures same_entries { task.new.out.ghost_name ≡ task.old.out.ghost_name }
+    ensures same_report { task.new.report.ghost_name ≡ task.old.report.ghost_name }
+    ensures indexed { IsIndexedIn task.old.form bytes.now limits (MayNeedMemory task.old.form bytes.now limits)
+        task.old.out.now task.new.out.now result task.new.report.now }
+{
+    let form = task.form;
+    match run_task(alloc, task, form, bytes, limits) {
+        Ok(status) => status,
+        Err(refusal) => refuse(refusal, task.report),
+    }
+}
+
+/// Writes the index of the message that `bytes` encode in `form` to `out`, within `limits`. Fills in `report`, and
+/// returns the status. Memory is allocated on `alloc` only for a packed text, and for a frame of more than 64 segments.
+pub fn fill_index(
     alloc: Global,
+    form: Form,
     bytes: &[u8],
     limits: Limits,
     out: &mut [CapnEntry],
     report: &mut CapnReport,
 ) -> u32
-    ensures { IsIndexedIn forms.Stream bytes.now limits (MayNeedMemory forms.Stream bytes.now limits) out.old out.new
-        result report.new }
+    ensures { IsIndexedIn form bytes.now limits (MayNeedMemory form bytes.now limits) out.old out.new result
+        report.new }
 {
-    match read_frame(alloc, bytes, limits) {
-        Ok(message) => index_message(alloc, &message, limits, table_of(&message), out, report),
-        Err(refusal) => refuse(refusal, report),
-    }
-}
-
-/// Writes the index of the bare words `bytes` to `out`, within `limits`. Fills in `report`, and returns the status.
-pub fn index_bare(
-    alloc: Global,
-    bytes: &[u8],
-    limits: Limits,
-    out: &mut [CapnEntry],
-    report: &mut CapnReport,
-) -> u32
-    ensures { IsIndexedIn forms.Bare bytes.now limits ⊥ out.old out.new result report.new }
-{
-    match Bare::new(bytes) {
-        Ok(space) => index_message(alloc, &space, limits, 0, out, report),
-        Err(fault) => refuse(Refusal::Bare(fault), report),
-    }
+    let mut task = WriteIndex { form, out, report };
+    run_index(alloc, &mut task, bytes, limits)
 }

@@ -11,7 +11,7 @@ ghost use Rattle.capn_abi.specs.StatusCodes.{Reports, answered, at_number, is_st
 ghost use Rattle.capn_c.specs.inner.Reported.{IsDoneHeld};
 
 use crate::figures::CapnFigures;
-use crate::held_message::figures_held;
+use crate::message_figures::figures_held;
 use capn_abi::{CapnLimits, CapnReport, DONE, answer_of, limits_of, refuse, report_at};
 use capn_walk::Limits;
 use std::alloc::Global;

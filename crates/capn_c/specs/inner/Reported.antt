@@ -1,24 +1,26 @@
 -- The results of the private functions of the calls for C: a status, a report, and what is written.
 use Rattle.std.specs.Prelude.{IsTrue, ◌≡◌, ◌≢◌, ◌⊎◌, ℕ, ◌+◌, ◌*◌, ◌<◌, ◌≤◌, Bool, false, List, None, ◌++◌, length, take}
-use Rattle.std.specs.Prelude.{drop}
+use Rattle.std.specs.Prelude.{drop, Result, MatchResult}
 use Rattle.capn_value.specs.FirstCap.{first_cap}
 use Rattle.capn_value.specs.Tree.{Tree}
-use Rattle.capn_walk.specs.Accepted.{IsAccepted, IsBounded}
+use Rattle.capn_stream.specs.FrameRefusal.{most_few}
+use Rattle.capn_walk.specs.Accepted.{IsAccepted, IsBounded, IsValueOf}
 use Rattle.capn_walk.specs.Index.{index_of}
 use Rattle.capn_walk.specs.Limits.{Bounds}
+use Rattle.capn_walk.specs.Surveyed.{IsSurvey}
 use Rattle.capn_walk.specs.declared.survey_answer.Surveyed.{Surveyed}
 use Rattle.capn_canon.specs.Canonicity.{IsCanonicalForm}
-use Rattle.capn_canon.specs.Denotes.{Answers, Denotes}
+use Rattle.capn_canon.specs.Denotes.{Answers, AnswersMessage, Denotes}
 use Rattle.capn_canon.specs.Layout.{canon}
-use Rattle.capn_canon.specs.Refusal.{IsRefused, IsUnacceptedIn}
+use Rattle.capn_canon.specs.Refusal.{IsRefused, IsRefusedMessage, IsUnaccepted, IsUnacceptedIn}
 use Rattle.capn_canon.specs.SurveyedBytes.{Surveys}
 use Rattle.capn_canon.specs.declared.form.Form.{Form}
 use Rattle.capn_canon.specs.declared.refusal.Refusal.{Refusal}
 use Rattle.capn_abi.specs.Calls.{Delivers}
 use Rattle.capn_abi.specs.StatusCodes.{Reports, answered, is_status}
 use Rattle.capn_abi.specs.declared.report.CapnReport.{CapnReport}
-use Rattle.capn_c.specs.Entries.{IndexedIn, c_index}
-use Rattle.capn_c.specs.Held.{DenotesHeld, IsUnacceptedHeld}
+use Rattle.capn_c.specs.Entries.{IndexedIn, c_index, table_length}
+use Rattle.capn_c.specs.Held.{AnswersHeld, DenotesHeld, IsRefusedHeld, IsUnacceptedHeld}
 use Rattle.capn_c.specs.declared.entries.CapnEntry.{CapnEntry}
 
 -- `is_status` is true of `status`. `budget` bounds the price and the visits in `report` (`IsBounded`). If `status` is
@@ -67,6 +69,19 @@ pub record IsFilled (value : Tree → Type 0) (answer : List ℕ → ℕ → Typ
   pub kept : status ≢ 0 → new ≡ old
   pub canonical : status ≡ 0 → (v : Tree) → value v → IsCanonicalForm (take report.length new) limits v
 
+-- `IsFilled` for the segments of `message`. `status` is never 8.
+abbrev pub IsFilledHeld : List (List ℕ) → Bounds → (old new : List ℕ) → ℕ → CapnReport → Type 0
+IsFilledHeld message limits old new status report =
+    IsFilled (DenotesHeld message limits) (AnswersHeld message limits) (IsRefusedHeld message limits) ⊥ limits old new
+    status report
+
+-- The result `r` is `Ok` with a status, and `IsFilled` holds of it for `message`. No memory is needed.
+abbrev pub IsFilledOf : List (List ℕ) → Bounds → (old new : List ℕ) → CapnReport → Result ℕ Refusal → Type 0
+IsFilledOf message limits old new report r = MatchResult r
+    (λ status. IsFilled (IsValueOf message limits) (AnswersMessage message limits) (IsRefusedMessage message limits) ⊥
+    limits old new status report)
+    (λ e. ⊥)
+
 -- `IsFilled` for the message that `bs` encode in `form`. A refusal that is reported says why `bs` have no canonical
 -- bytes.
 abbrev pub IsFilledIn : Form → List ℕ → Bounds → (needed : Type 0) → (old new : List ℕ) → ℕ → CapnReport → Type 0
@@ -104,6 +119,15 @@ pub record IsIndexed (survey : Surveyed → Type 0) (index : Type 0) (value : Tr
   pub only : (v : Tree) → value v → (status ≤ 1) ⊎ (status ≡ 8)
   pub reported : IsReported reason needed budget status report
   pub kept : status ≢ 0 → new ≡ old
+
+-- The result `r` is `Ok` with a status, and `IsIndexed` holds of it for `message`, which is read in `form`.
+abbrev pub IsIndexedOf : Form → List (List ℕ) → Bounds → (old new : List CapnEntry) → CapnReport → Result ℕ Refusal
+    → Type 0
+IsIndexedOf form message limits old new report r = MatchResult r
+    (λ status. IsIndexed (IsSurvey message limits) (IsIndex (table_length form message) message limits old new)
+    (IsValueOf message limits) (IsUnaccepted message limits) (most_few < length message) limits.budget old new status
+    report)
+    (λ e. ⊥)
 
 -- `IsIndexed` for the message that `bs` encode in `form`. A refusal that is reported says why `bs` are not accepted.
 abbrev pub IsIndexedIn : Form → List ℕ → Bounds → (needed : Type 0) → (old new : List CapnEntry) → ℕ → CapnReport

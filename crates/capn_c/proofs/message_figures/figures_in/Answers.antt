@@ -1,0 +1,13 @@
+-- The figures of a message are also the figures of the bytes that are read as that message.
+use Rattle.capn_answers.proofs.shared.TaskRuns.{run_answered}
+use Rattle.capn_canon.specs.Refusal.{IsUnaccepted}
+use Rattle.capn_c.specs.Figures.{AreFigures}
+use Rattle.capn_c.specs.inner.Told.{AreFiguresTold}
+use Rattle.capn_c.proofs.FiguresTold.{figures_read}
+use Rattle.capn_c.proofs.message_figures.figures_in.Goals as goal
+
+pub returns : goal.returns
+returns c =
+    figures_read c.args.form c.args.bytes.now c.args.limits c.run_task.result
+    (run_answered (λ m l x. AreFiguresTold (AreFigures m l) (IsUnaccepted m l) ⊥ l.budget x) _ _ _ _ _ _
+    c.run_task.ensures)
