@@ -66,7 +66,7 @@ def all_cases():
 
 
 def asked(cases, before=""):
-    """Returns the input of these cases. A word stands before each call."""
+    """Returns the input of these cases. The text `before` stands before each call."""
     return "".join(f"{case.name}\n{before}{case.call}\n" for case in cases)
 
 

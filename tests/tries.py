@@ -24,7 +24,7 @@ MEMORY = 2
 # The number of cases in one run of the program. If a case ends the program, the remaining cases of its run aren't
 # tried, so the number is small.
 AT_ONCE = 40
-# How many seconds such a run may take, even on a busy machine.
+# How many seconds one run of the program may take, even on a busy machine.
 SECONDS = 1200
 # How many lines of a crate's errors are printed at most: ten cases.
 MOST_LINES = 40
@@ -197,8 +197,8 @@ def exported():
 
 @functools.cache
 def words_of_tests():
-    """Returns the path of each file of tests with the words that it imports from the product. A file of tests/c has all
-    its words."""
+    """Returns a dictionary from the path of each file of tests to a set of words: those that the file imports from the
+    product or, for a file of tests/c, all words of its text."""
     found = {}
     for crate in proving.crates():
         if crate.startswith(("test_", "conformance_")) or crate in product() and tests_of(crate):

@@ -18,7 +18,7 @@ int main(void) {
     const capn_limits limits = CAPN_USUAL_LIMITS;
     uint8_t *bytes = NULL, digest[32];
     size_t have = 0, room = 0;
-    uint64_t number = 1, offset = 0; /* those of the message that begins in `bytes` */
+    uint64_t number = 1, offset = 0; /* the number and the offset of the message that begins in `bytes` */
     int is_valid = 1;
     capn_report report;
     capn_status status;

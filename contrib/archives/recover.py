@@ -201,9 +201,9 @@ class Archive:
         return 0
 
     def between(self, bad: Message, good: int) -> Iterator[Span]:
-        """Yields the bytes from a bad message up to the next good one. If the segment tables of the messages between
-        them lead exactly to the good one, each of these messages is where it should be. In this case the accepted
-        messages between are kept, even if they are suspect."""
+        """Yields the bytes from a bad message up to the next good message. If the segment tables lead from the bad
+        message exactly to the good message, each message between these two begins where it should. In this case, an
+        accepted message between them is kept, even if it is suspect."""
         end = bad.begin
         with closing(listed(self.path, bad.begin)) as found:
             for message in found:

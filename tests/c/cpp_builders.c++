@@ -1,6 +1,6 @@
 // Tests capn_kj.hpp on builders of the reference implementation.
 //
-// For the segments of a builder, it has to return the reference implementation's own canonical form.
+// For the segments of a builder, capn_kj.hpp has to return the canonical form that the reference implementation makes.
 //
 //     cpp_builders SEED COUNT   so many builders of two segments or more, and the others that come between them
 #include "capn_kj.hpp"

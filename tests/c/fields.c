@@ -50,7 +50,7 @@ static void show_text(const capn_entry *entry, const char *fallback) {
 }
 static void show_int(int64_t number) { printf("%" PRId64 ";", number); }
 
-/* Shows a Point. If `more` is set, it is a Placed. */
+/* Shows a Point, or a Placed if `more` is set. */
 static void show_point(const capn_record *point, int more) {
     show_int(capn_field_int(point, 0, 32, 0));
     show_int(capn_field_int(point, 32, 32, -1));

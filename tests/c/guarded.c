@@ -309,7 +309,7 @@ static size_t call(uint32_t which, const uint8_t *bytes, size_t size, size_t eno
     case 11: {
         doing = "capn_same";
         uint32_t *told = any(4) ? (uint32_t *)(void *)filled(of_other, sizeof *told) : NULL;
-        /* The second message is the first one itself, or a part of it, from a byte on or up to a byte. */
+        /* The second message has all bytes of the first, the bytes from some byte on, or the bytes up to some byte. */
         const uint32_t of = size ? any(3) : 0, at = of ? any((uint32_t)size + 1) : 0;
         const uint8_t *second = of == 1 ? bytes + at : bytes;
         const size_t most = of == 1 ? size - at : of ? at : size;

@@ -1,5 +1,5 @@
-/* The limits that the programs of this folder pass: the defaults, or the defaults with some limits changed. A limit
- * that is added to the library has its default in both. */
+/* The limits that the programs of this folder pass: the defaults, or the defaults with some limits changed. If a limit
+ * is added to the library, `usual` and limits_of have its default. */
 #ifndef CAPN_TESTS_USUAL_H
 #define CAPN_TESTS_USUAL_H
 #include "capn.h"

@@ -50,7 +50,7 @@ static capn_status departure(const struct input *in, capn_departed *departed, si
     return capn_departure(in->form, in->bytes, in->size, &in->limits, departed, most ? way : NULL, most, report);
 }
 
-/* From a number on, the array must be unchanged. */
+/* Tests that the numbers of the array from number `from` on are unchanged. */
 static void kept(const char *what, size_t from) {
     for (size_t i = from; i <= MOST; i++)
         if (way[i] != FILL) {

@@ -22,7 +22,7 @@ NUMBERS = ("N", "K")
 
 
 def options_of(command):
-    """Returns the options of a command without `--help`."""
+    """Returns the options of a command, except `--help`."""
     return [option for option in help_texts.options_of(HELP[command]) if option.name != "--help"]
 
 

@@ -111,7 +111,7 @@ def pointers(found):
 
 
 def any_of(stream):
-    """Returns the number of messages, the number of pointers, and how many readings succeed for all pointers."""
+    """Returns a text with three numbers: the messages, their pointers, and the readings of pointers that succeed."""
     messages = slots = read = 0
     for frame in capn.messages(stream, read_ahead=True):
         try:

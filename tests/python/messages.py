@@ -58,8 +58,8 @@ def trimmed(value):
 
 
 def bare(value, backwards=False):
-    """Returns the words of a segment that holds a value. The objects are in preorder, or the last pointer of each
-    object is written first."""
+    """Returns the words of a segment that holds a value. The objects are in preorder. With `backwards`, the objects of
+    the last pointer of each object come first."""
     segment = [0]
 
     def put(at, value):

@@ -1,5 +1,5 @@
 """Prints the shortest of many times of each call of the package, in nanoseconds. `capn.check` of a message of 32 bytes
-is slower than an empty Python call: the first three lines are the parts of the difference."""
+is slower than an empty Python call. The first three lines say how much slower, for three types of its argument."""
 import fcntl
 import io
 import os

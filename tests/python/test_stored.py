@@ -8,7 +8,7 @@ import capn
 CRATES = Path(__file__).resolve().parents[2] / "crates"
 CALLS = re.compile(
     r"(plain )?(canonicalise|is_canonical|survey|pack|unpack) .*|run \d+ hash --form (bare|stream) (?!--).*"
-    # Of the packed streams, take only those of one message. The digest of one message is a line of 65 bytes.
+    # Take a packed stream only if it has one message. The digest of one message is a line of 65 bytes.
     r"|run \d+ hash --form packed (?!--)[^|]*\|status 0, [0-9a-f]{130}"
 )
 

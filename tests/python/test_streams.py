@@ -235,8 +235,8 @@ class NoByteAfterIt(unittest.TestCase):
 
 
 class Wound(unittest.TestCase):
-    """Files with `seek`. A reader may look ahead and find messages. It returns them only while the file's position is
-    still theirs."""
+    """Files with `seek`. A reader may look ahead and find messages. It returns such a message only if the position of
+    the file is still where the message begins."""
 
     def files(self, data, folder):
         path = os.path.join(folder, "file")
