@@ -136,6 +136,7 @@ interop: $(if $(CAPN),,program library)
 
 # Proves the library for C: the archive of capn_c, and the files that are made from it.
 library:
+	@.ci/needs run
 	@.ci/prove capn_c
 	@$(MAKE) --no-print-directory linked
 
@@ -144,6 +145,7 @@ library:
 # of crates that wait for one another is capn_words, value, target, walk, layout, canon, serve, archive, orders, tool
 # and capn.
 beside:
+	@.ci/needs run
 	@.ci/prove capn capn_c
 	@$(MAKE) --no-print-directory linked
 
