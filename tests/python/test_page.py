@@ -16,6 +16,8 @@ README = TOP / "python" / "README.md"
 MESSAGE = bytes.fromhex("0000000003000000" "0000000002000000" "0500000000000000" "0000000000000000")
 # A pointer to more words than the message has.
 WRONG = bytes.fromhex("0000000001000000" "0000000001000000")
+# A struct with a capability, whose index is 2.
+CAPABILITY = bytes.fromhex("0000000002000000" "0000000000000100" "0300000002000000")
 # Two children at pointer 1. The first child has the name "ab".
 CHILDREN = bytes.fromhex("0000000007000000" "0000000000000200" "0000000000000000" "0100000017000000" "0800000000000100"
                          "050000001a000000" "0000000000000000" "6162000000000000")
@@ -67,7 +69,8 @@ class Page(unittest.TestCase):
 
     def test_all_programs_are_tried(self):
         tried = "print(capn.digest(message).hex())", "def has_digest", "def is_within_limits", "print(capn.survey", \
-            "keep_going=True", "def receive", "root.uint(64, 0, default=7)", "def describe"
+            "capn.messages(file, limits=LIMITS, keep_going", "capn.digests(file, limits=LIMITS, keep_going", \
+            "def receive", "root.uint(64, 0, default=7)", "def describe"
         self.assertEqual(sorted(map(program, tried)), sorted(blocks(PAGE, "python")))
 
     def test_digest(self):
@@ -79,12 +82,8 @@ class Page(unittest.TestCase):
         # The message has 1 MiB with its segment table. A longer message is rejected.
         most = framed((1 << 17) - 1)
         self.assertEqual(self.run_on(most, first), (0, f"{capn.digest(most).hex()}\n"))
-        for longer, why in (
-            (most + b"x", "trailing bytes at 1048576"),
-            (framed(1 << 17), "frame: Cut"),
-            (bytes((1 << 20) + 1), "trailing bytes at 8"),
-        ):
-            self.assertEqual(self.run_on(longer, first), (1, f"rejected: {why}\n"))
+        for longer in most + b"x", framed(1 << 17), framed(1 << 18), bytes((1 << 20) + 1):
+            self.assertEqual(self.run_on(longer, first), (1, "rejected: longer than 1 MiB\n"))
 
     def test_has_digest(self):
         digest = capn.digest(MESSAGE)
@@ -140,6 +139,7 @@ class Page(unittest.TestCase):
              " 0000000001000000 (struct of 1 words and 0 slots, offset 0), the pointer at root"),
             (TEXT.replace(b"\x22", b"\x52"), "rejected: Range at 0:2, paid 3, visits 2, pointer (0,), byte 24"),
             (TEXT[:-1], "rejected: frame: Cut"),
+            (bytes(8), "rejected: NoRoot at 0:0, paid 0, visits 0"),
         ):
             asked = f"print(describe({message!r}))"
             self.assertEqual(self.run_on(b"", program("def describe"), asked), (0, f"{expected}\n"))
@@ -151,15 +151,27 @@ class Page(unittest.TestCase):
         self.assertEqual(self.run_on(b"", stream), (0, ""))
         self.assertEqual(self.run_on(MESSAGE + MESSAGE[:-8], stream),
                          (1, f"{figures}\nrejected: message 2 at 32: frame: Cut\n"))
+        # An error of the call in the loop has no number.
+        self.assertEqual(self.run_on(MESSAGE + WRONG, stream),
+                         (1, f"{figures}\nrejected: Range at 0:0, paid 0, visits 1\n"))
 
     def test_keep_going(self):
-        kept = program("keep_going=True")
-        [printed] = blocks(PAGE, "text")
+        kept = program("capn.messages(file, limits=LIMITS, keep_going")
+        printed, _ = blocks(PAGE, "text")
         status, wrote = self.run_on(MESSAGE + WRONG + MESSAGE, kept)
         self.assertEqual((status, sorted(wrote.splitlines())), (1, sorted(printed.splitlines())))
         self.assertEqual(self.run_on(MESSAGE, kept), (0, "message 1 at 0: 32 bytes\n"))
         self.assertEqual(self.run_on(MESSAGE + b"\xff" * 8, kept), (
             1, "message 1 at 0: 32 bytes\nthe stream ends: message 2 at 32: frame: TooManySegments(4294967296)\n"))
+
+    def test_digests(self):
+        kept = program("capn.digests(file, limits=LIMITS, keep_going")
+        _, printed = blocks(PAGE, "text")
+        status, wrote = self.run_on(MESSAGE + CAPABILITY + MESSAGE, kept)
+        self.assertEqual((status, sorted(wrote.splitlines())), (0, sorted(printed.splitlines())))
+        first = f"message 1 at 0: {capn.digest(MESSAGE).hex()}\n"
+        self.assertEqual(self.run_on(MESSAGE + MESSAGE[:-8], kept),
+                         (1, f"{first}the stream ends: message 2 at 32: frame: Cut\n"))
 
     def test_receive(self):
         code = program("def receive")
