@@ -250,7 +250,7 @@ func TestPage(t *testing.T) {
 	hex0 := hex.EncodeToString(digest[:])
 	is("first", hex0+"\n", told(0, person))
 	is("first", "rejected: capn: trailing bytes at 88\n(1)\n", told(0, both(person, null)))
-	is("first, too long", "rejected: capn: frame: Cut\n(1)\n",
+	is("first, too long", "rejected: longer than 1 MiB\n(1)\n",
 		told(0, append(bare(1<<20<<32), make([]byte, 1<<21)...)))
 
 	is("digest", hex0+" <nil>\n", told(2, person))
