@@ -21,7 +21,7 @@ std::size_t write_canonical(capn::bytes message, void *out, std::size_t room, co
 std::string compare(capn::bytes first, capn::bytes second, const capn::limits &limits);
 bool is_within_limits(capn::bytes message);
 std::string reason_to_reject(capn::bytes message, const capn::limits &limits);
-std::uint64_t count_valid(int file, const capn::limits &limits);
+std::optional<std::uint64_t> count_valid(int file, const capn::limits &limits);
 bool check_each(int file, const capn::limits &limits);
 std::uint64_t count_packed(std::istream &in, const capn::limits &limits);
 void print_person(capn::bytes message, const capn::limits &limits);
@@ -45,7 +45,11 @@ static void put(capn::bytes data) {
 int main(int count, char **words) try {
     const std::string word = count > 1 ? words[1] : "";
     const capn::limits limits(1 << 17, 1 << 18, 32);
-    if (word == "valid") return std::cout << count_valid(0, limits) << "\n", 0;
+    if (word == "valid") {
+        const auto valid = count_valid(0, limits);
+        if (valid) std::cout << *valid << "\n";
+        return !valid;
+    }
     if (word == "each") return !check_each(0, limits);
     if (word == "packed") return std::cout << count_packed(std::cin, limits) << "\n", 0;
     const std::string message((std::istreambuf_iterator<char>(std::cin)), {});
