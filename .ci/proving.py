@@ -158,8 +158,8 @@ def kit():
 
 
 def library_started(top, jobs):
-    """Starts the command that proves the library for C and builds its archive. Returns the running command. It uses the
-    libraries that a run left in the folders out/ of the crates below `top`."""
+    """Starts the command that proves the library for C and builds its archive. Returns the running command. The command
+    uses the libraries that a run left in the folders out/ of the crates below `top`."""
     kit_folder, folder = kit(), os.path.join(TOP, "crates", LIBRARY)
     words = ["-L", f"dependency={kit_folder}/rlibs"]
     for it in sorted(glob.glob(os.path.join(top, "crates", "*", "out", "rlib"))):

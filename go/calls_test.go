@@ -171,7 +171,8 @@ func TestLongAnswer(t *testing.T) {
 	}
 }
 
-// A message may lie where the result would be written. It must stay unchanged, and another slice is returned.
+// A message may lie in the place of the result. The message must stay unchanged, and the call must return another
+// slice.
 func TestOverlappingAnswer(t *testing.T) {
 	source := rand.New(rand.NewSource(82))
 	for i := 0; i < 500; i++ {
@@ -199,7 +200,8 @@ func TestOverlappingAnswer(t *testing.T) {
 				t.Fatalf("%d bytes before: the message was changed", before)
 			}
 		}
-		// First a slice is reused by the usual idiom. Then a message is rejected, and dst must stay unchanged.
+		// First the call appends to dst[:0], so that it reuses a slice. Then a message is rejected, and dst must stay
+		// unchanged.
 		m := append([]byte{}, message...)
 		got, err := AppendCanonical(m[:0], m, Stream, nil)
 		if err != nil || !bytes.Equal(got, want) || !bytes.Equal(m, message) {

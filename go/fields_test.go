@@ -16,12 +16,12 @@ import (
 	"unicode/utf8"
 )
 
-// The fields of tests/c/fields.capnp, read with its older or its newer type, and each message of other schemas as
-// anything. CAPN_FIELDS names a folder with the messages that the reference implementation's generated code wrote, and
-// what it read. CAPN_MIXED names a file with messages of tests/c/mixed.py. CAPN_LINES names the file into which their
-// lines are written.
+// These tests read the fields of tests/c/fields.capnp with its older or its newer type. They read messages of other
+// schemas without a schema. CAPN_FIELDS names a folder with the messages that the reference implementation's generated
+// code wrote, and with what this code read. CAPN_MIXED names a file with messages of tests/c/mixed.py. CAPN_LINES names
+// the file into which the tests write the lines of these messages.
 
-// reading reads fields until a field isn't as the schema says.
+// reading reads fields, and stops at the first field that isn't as the schema says.
 type reading struct {
 	out strings.Builder
 	err error

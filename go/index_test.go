@@ -200,7 +200,8 @@ func TestFields(t *testing.T) {
 				t.Errorf("%s: field %d is %v, not %v", one.kind, i, got[i], want[i])
 			}
 		}
-		// In place of a list of numbers, a newer writer may have written structs.
+		// A newer writer may have written a list of structs in place of the list of numbers. In this case, the numbers are
+		// not read here.
 		var numbers []uint64
 		for i := 0; i < r.Slot(1).Len() && r.Slot(1).Kind() == U16s; i++ {
 			numbers = append(numbers, r.Slot(1).At(i))

@@ -51,8 +51,8 @@ func TestAppendMany(t *testing.T) {
 
 // A result that is much shorter than the buffer that was made for it doesn't keep this buffer.
 func TestShortAnswers(t *testing.T) {
-	// Null roots, followed by words that no pointer refers to. From some size on a message is checked first, and the sizes
-	// are below it and above it.
+	// The messages have null roots, followed by words that no pointer refers to. A large message is checked before a
+	// buffer is made. Some of these sizes are too small for that, and others are large enough.
 	for _, size := range []int{1 << 12, 1 << 19, 1 << 23} {
 		null := append(bare(uint64(size/8)<<32), make([]byte, size)...)
 		for form, data := range map[Form][]byte{Stream: null, Packed: packed(t, null), Bare: null[8:]} {
@@ -160,8 +160,8 @@ func mapped(t *testing.T, size int, start []byte) []byte {
 
 const narrow = "CAPN_NARROW"
 
-// An input of 5 GiB in 8 GiB of address space. Each call must reject it as Check does, and must not allocate more
-// memory than its limits allow. The race detector and cgocheck need more address space than that.
+// Makes calls on 5 GiB with 8 GiB of address space. Each call must reject the input as Check does, and must not
+// allocate more memory than its limits allow. The race detector and cgocheck need more address space than that.
 func TestLongInput(t *testing.T) {
 	const size = 5 << 30
 	if os.Getenv(narrow) == "" {

@@ -144,7 +144,7 @@ func main() {
 `,
 }
 
-// The head that the block which signs and verifies asks for.
+// The block of the page that signs and verifies needs this head: a package and imports.
 const imports = `package main
 
 import (

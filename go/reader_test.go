@@ -189,7 +189,8 @@ func TestRefusedStream(t *testing.T) {
 	}
 }
 
-// A segment table announces 64 MiB, and few bytes come. Memory grows only with the bytes that come.
+// A segment table announces 64 MiB, but only few bytes come. The memory of the reader may grow only with the bytes that
+// come.
 func TestAnnounced(t *testing.T) {
 	head := append([]byte{0, 0, 0, 0}, 0, 0, 0x80, 0)
 	reader := NewReader(io.MultiReader(bytes.NewReader(head), bytes.NewReader(make([]byte, 100000))), nil)
@@ -424,8 +425,8 @@ func TestImpossibleCount(t *testing.T) {
 	}
 }
 
-// The reader below may return an error that is itself a rejection, such as that of another stream. This is an error of
-// reading.
+// The io.Reader may return an error that is itself a rejection, such as the rejection of a message of another stream.
+// For this stream, it is an error of reading.
 func TestErrorOfAnotherStream(t *testing.T) {
 	other := &Error{Kind: ErrRange, Message: 7}
 	r := NewReader(io.MultiReader(bytes.NewReader(small[:9]), iotest.ErrReader(other)), nil)

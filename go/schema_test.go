@@ -30,7 +30,7 @@ func lists(t *testing.T) []Value {
 		rootOf(t, 1|7<<32|2<<35, 8|1<<32, 0, 0), rootOf(t, 1|7<<32|2<<35, 8|1<<48, 0, 0))
 }
 
-// Reads each kind of list in place of each other kind, as tests of the other languages do.
+// Reads each kind of list as each other kind. The tests of the other languages do the same.
 func TestListsInPlaceOfOthers(t *testing.T) {
 	all := lists(t)
 	for _, one := range []struct {

@@ -17,8 +17,8 @@ import (
 	"testing"
 )
 
-// The patterns of cases that a call answers, and of the parts of answers that a call doesn't report. Of the packed
-// streams that are hashed, only those of one message are taken.
+// `calls`, `hashes` and `packedHashes` match the cases that a call can answer. Of the packed streams that are hashed,
+// only those of one message are taken. `capabilities` matches the part of an answer that no call reports.
 var (
 	calls        = regexp.MustCompile(`^(plain )?(canonicalise|is_canonical|survey|pack|unpack) `)
 	hashes       = regexp.MustCompile(`^run [0-9]+ hash --form (bare|stream) [^-]`)

@@ -28,7 +28,7 @@ func TestUnsupported(t *testing.T) {
 	errs = append(errs, err)
 	_, err = IsCanonicalWords(message, nil)
 	errs = append(errs, err)
-	// A message that would be checked before a buffer for the result is made.
+	// This message is so large that Canonical would check it before a buffer for the result is made.
 	_, err = Canonical(make([]byte, 1<<21), Stream, nil)
 	errs = append(errs, err)
 	_, err = RefusalWay(message, Stream, nil)

@@ -40,7 +40,8 @@ func TestIsCanonicalMessage(t *testing.T) {
 	// A struct of two words, 5 and 0, followed by a word that no pointer refers to, and the canonical bytes of this
 	// message.
 	loose, tight := stream(t, 2<<32, 5, 0, 9), stream(t, 1<<32, 5)
-	// Read as words, a segment table and its segment are a struct of data. The earlier call reads them like this.
+	// If a stream is read as bare words, its segment table is a pointer to a struct whose data is the segment.
+	// IsCanonicalWords and the older IsCanonical read bare words.
 	for _, call := range []func([]byte, *Limits) (bool, error){IsCanonicalWords, IsCanonical} {
 		for _, one := range []struct {
 			words []byte
@@ -185,7 +186,7 @@ func said(text string) map[string]string {
 	return found
 }
 
-// Compares the stored explanations of the program.
+// Compares the paths and the first differences with the stored explanations of the program.
 func TestStoredWays(t *testing.T) {
 	inputs, outputs := storedLines(t, "stdin"), storedLines(t, "stdout")
 	ways, departures := 0, 0
@@ -222,7 +223,7 @@ func TestStoredWays(t *testing.T) {
 		if wanted["way"] == "" && wanted["canonical"] == "" {
 			continue
 		}
-		// The message that the explanation is about, as it stands and packed.
+		// The message that the explanation is about, in its own form and packed.
 		messages, offset := map[Form][]byte{form: data}, uint64(0)
 		if form != Bare {
 			reader := NewReader(bytes.NewReader(data), &limits)

@@ -83,7 +83,7 @@ class Debs:
             with open(overrides, encoding="utf-8") as file:
                 text = file.read()
             if not self.proved:
-                # this override is right only for a release, and not for a version in development
+                # leaves out an override that is right only for a release, and not for a version in development
                 text = re.sub(r"#.*\n.*initial-upload.*\n", "", text)
             write(os.path.join(folder, "usr/share/lintian/overrides", package), text)
         control = os.path.join(folder, "DEBIAN")

@@ -10,8 +10,8 @@ from packing import VERSION
 
 
 def listed(made, seconds, commit, tree):
-    """Returns the list of components of these files in the SPDX 2.3 format. It concludes no licence for the files,
-    because parts that are linked into them state none."""
+    """Returns the list of components of these files in the SPDX 2.3 format. The list names no concluded licence for a
+    file, because some components that are linked into the files state no licence."""
     paths = {os.path.basename(it): it for it in made}
     day = datetime.datetime.fromtimestamp(seconds, datetime.timezone.utc)
     packages, relations, texts = [], [], {}

@@ -67,7 +67,8 @@ def commit_of(top=TOP):
 
 
 def proof(commit, tree, is_clean):
-    """Returns the PROVED that the whole run wrote for this tree and these files. Fails if it wrote none."""
+    """Returns the text of PROVED that the whole run wrote for this tree and these files. Fails if the whole run wrote
+    no PROVED for them."""
     if not os.path.exists(PROVED):
         raise Stop("the whole run has not passed here: make test-all")
     with open(PROVED, encoding="utf-8") as file:
@@ -87,7 +88,7 @@ def installed(folder, prefix, libraries, *words):
     """Runs `make install` and `make install-library` into a folder, and returns the folder. Also passes these words to
     make."""
     words = [f"DESTDIR={folder}", f"PREFIX={prefix}", f"LIBDIR={libraries}", *words]
-    # this make doesn't get the options of a make that runs this script, such as a prefix
+    # Removes the options of a make that runs this script, such as a prefix. The make below must not get these options.
     env = {key: value for key, value in os.environ.items() if not key.startswith("MAKE") and key != "MFLAGS"}
     said("make", "--no-print-directory", "install", "install-library", *words, env=env)
     return folder

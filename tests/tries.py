@@ -29,7 +29,8 @@ SECONDS = 1200
 # How many lines of a crate's errors are printed at most: ten cases.
 MOST_LINES = 40
 
-# A job of a crate. It has a word for the job, and a function that returns the errors and the output.
+# A job of a crate. A job has the name of the crate, a word that says what is tried, and a function that returns the
+# errors and the output.
 Job = collections.namedtuple("Job", "crate what run")
 # A function that a crate exports. The crate of the calls of c/capn.h is `c`.
 Function = collections.namedtuple("Function", "crate name")
@@ -275,8 +276,9 @@ def nearest(crate, names, tried):
 
 
 def calls_reaching(crate, names):
-    """Returns the first program with cases that reach a crate, and the calls of these cases. These are the calls whose
-    answers name the crate. If there are none, they are the calls whose answers reach it."""
+    """Returns the first program that has cases which reach a crate, and the calls of these cases. If the answers of
+    some calls name the crate, these calls are returned. Otherwise the calls whose answers reach the crate are
+    returned."""
     for one in stored.CRATES:
         found = dict(crates_of_calls(one))
         if crate == one or crate in names[one] and crate not in set().union(*found.values()):

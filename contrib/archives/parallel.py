@@ -32,9 +32,9 @@ PASSED_OVER = re.compile(rb"capn: (\d+) of (\d+) messages refused, the first is 
 
 
 class Part(NamedTuple):
-    """A part of an archive, which consists of complete messages. It says how many messages are before it, where it
-    begins, how many messages it has, and where it ends. The last part has no end. It is the rest of the archive,
-    whatever that contains."""
+    """A part of an archive. A part has complete messages, except that the last part may have any bytes. A part says how
+    many messages are before it, where it begins, how many messages it has, and where it ends. The last part is the rest
+    of the archive, and has no end."""
 
     before: int
     begin: int
@@ -128,7 +128,7 @@ def put_together(found: Iterator[Answer]) -> tuple[bytes, int]:
 
 
 def limits_of(options: list[str]) -> list[str]:
-    """Returns the limits among these options. They also apply when the archive is split."""
+    """Returns the limits among these options. The limits also apply when the script splits the archive."""
     found: list[str] = []
     for at, option in enumerate(options):
         if option in LIMITS:

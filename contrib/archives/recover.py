@@ -29,16 +29,16 @@ LIST = [os.environ.get("CAPN", "capn"), "list", "--keep-going", "--tariff", "pla
 LIMITS = [LIST[0], "limits"]
 LINE = re.compile(rb"\d+ at (\d+) bytes (\d+) segments \d+ words (\d+) (?:paid (\d+) |refused (.*))")
 FAULT = re.compile(rb"capn: message \d+ at (\d+): (.*)")
-# Finds where a segment table may begin. The table has at most 4,096 segments, and its first segment isn't empty. It may
-# begin at any byte, since some bytes may be lost.
+# Matches the beginning of a possible segment table. The table has at most 4,096 segments, and its first segment isn't
+# empty. It may begin at any byte, since some bytes may be lost.
 TABLE = re.compile(rb"(?=.[\0-\x0f]\0\0(?!\0{4}))", re.DOTALL)
 # One process checks at most this many rows of messages, or about this many bytes.
 MOST_ROWS, MOST_BYTES = 1 << 12, 1 << 24
 
 
 class Message(NamedTuple):
-    """A message: its bytes, its words, and its cost or the error for which it is rejected. A message with an invalid
-    segment table has no end."""
+    """A message: its bytes, its words, and its cost or the error for which it is rejected. If the segment table is
+    invalid, the end of the message isn't known."""
 
     begin: int
     end: int
@@ -52,8 +52,8 @@ class Message(NamedTuple):
 
 
 class Span(NamedTuple):
-    """A range of bytes of an archive. It has complete messages that are kept, or bytes that are skipped, with the
-    error."""
+    """A range of bytes of an archive. The bytes are complete messages that are kept, or bytes that are skipped because
+    of an error. In the second case, the range has this error."""
 
     begin: int
     end: int
@@ -110,8 +110,8 @@ class Sample:
             self.has_null = self.has_null or cost == 0
 
     def takes(self, message: Message) -> bool:
-        """Returns whether a message is accepted. Two words of garbage can be null, so a null message counts only if the
-        sample has one."""
+        """Returns whether a message is accepted. Two words of garbage can be a null message. So a null message counts
+        as accepted only if the sample has a null message."""
         return message.cost is not None and (message.cost > 0 or self.has_null)
 
     def is_like(self, message: Message) -> bool:
@@ -146,8 +146,8 @@ class Archive:
                 yield from self.between(bad, at)
 
     def next_good(self, bad: Message) -> int:
-        """Returns the byte at which a row of good messages begins. It is the first such byte after the beginning of a
-        bad message, or the end of the archive."""
+        """Returns the byte at which a row of good messages begins. The row is the first one after the beginning of a
+        bad message. If no such row exists, returns the end of the archive."""
         rows: list[tuple[int, list[int]]] = []
         most, size = 1, 0
         if self.nested and bad.end > bad.begin and self.first_good([(bad.end, self.ends(bad.end))]):
@@ -201,9 +201,9 @@ class Archive:
         return 0
 
     def between(self, bad: Message, good: int) -> Iterator[Span]:
-        """Yields the bytes from a bad message up to the next good message. If the segment tables lead from the bad
-        message exactly to the good message, each message between these two begins where it should. In this case, an
-        accepted message between them is kept, even if it is suspect."""
+        """Yields the bytes from a bad message up to the next good message. The segment tables may lead from the bad
+        message exactly to the good message. Then each message between these two begins where it should, and is kept if
+        it is accepted, even if it is suspect."""
         end = bad.begin
         with closing(listed(self.path, bad.begin)) as found:
             for message in found:

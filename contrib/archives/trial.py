@@ -21,8 +21,8 @@ from messages import canonical, framed, in_two_segments, with_zeros
 
 CAPN = os.environ["CAPN"]
 MEGABYTE = 1 << 20
-# How often the messages after an invalid table are repeated. The archive is then so long that the table can announce
-# 5,000 words and hide only complete messages.
+# How often the messages after an invalid table are repeated. One table announces 5,000 words. So many messages have to
+# follow this table that it hides only complete messages.
 MANY = 6
 Ran = tuple[bytes, str, int]
 Place = tuple[int, int, str]
@@ -108,12 +108,12 @@ def recover(source: random.Random, messages: list[bytes]) -> None:
         table = sized(after[0], said)
         recovered(f"a table of {said} words", head + table + rest * MANY, before + after[1:] * MANY,
                   (at, first, fault_of(table + rest * MANY)))
-    # Zeros overwrite the end of a message, the next message, and the beginning of a third.
+    # Overwrites the end of a message, the next message, and the beginning of a third message with zeros.
     zeros = tail[:16] + bytes(first + len(after[1]) - 8) + tail[first + len(after[1]) + 8:]
     recovered("zeros", head + zeros, before + after[3:], (at, sum(map(len, after[:3])), fault_of(zeros)))
     recovered("13 bytes lost", head + rest[13:], before + after[2:], (at, len(after[1]) - 13, fault_of(rest[13:])))
-    # Two rejected messages with a good message between them, long messages, and a message with a gap. Nothing of the
-    # message with a gap may be lost.
+    # Tries archives with two rejected messages and a good message between them, with long messages, and with a message
+    # that has a gap. Nothing of the message with a gap may be lost.
     refused = REFUSED + after[0] + REFUSED
     recovered("two refused", head + refused + rest, messages, (at, len(REFUSED), fault_of(REFUSED)),
               (at + len(refused) - len(REFUSED), len(REFUSED), fault_of(REFUSED)))

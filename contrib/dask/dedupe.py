@@ -55,8 +55,8 @@ class Report:
 
 
 def capn(*words: str, **given: Any) -> bytes:
-    """Returns the output of `capn`. The status may say that rejected messages were skipped. Any other failure raises an
-    exception."""
+    """Returns the output of `capn`. The status of `capn` may say that rejected messages were skipped. Any other failure
+    raises an exception."""
     ran = subprocess.run([os.environ.get("CAPN", "capn"), *words], capture_output=True, check=False, **given)
     if ran.returncode and not (ran.stderr.count(b"\n") == 1 and PASSED_OVER in ran.stderr):
         raise RuntimeError(f"capn {' '.join(words)}: status {ran.returncode}: {ran.stderr.decode().strip()}")

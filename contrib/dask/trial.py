@@ -1,4 +1,5 @@
-"""Tests the example on a local cluster of two workers: trial.py FOLDER. One worker is ended in the middle.
+"""Tests the example on a local cluster of two workers: trial.py FOLDER. While the example runs, the test ends one
+worker.
 
 The test fails if the output or the counts for the folder's archives differ from those of one process of `capn`.
 """
@@ -46,7 +47,7 @@ def by_one_process(data: bytes, *words: str) -> tuple[bytes, str]:
 
 
 def run_command(paths: list[str]) -> subprocess.CompletedProcess[bytes]:
-    """Runs the example's command without other workers. The result goes into the file framed."""
+    """Runs the example's command without other workers. The command writes the result into the file `framed`."""
     script = Path(__file__).with_name("dedupe.py")
     words = [sys.executable, "-B", str(script), "--canonical", "--most", str(MOST), "framed", *paths]
     return subprocess.run(words, capture_output=True, check=False)
@@ -59,8 +60,8 @@ def by_command(paths: list[str]) -> tuple[bytes, str]:
 
 
 def is_named(paths: list[str]) -> bool:
-    """Returns whether the command names a truncated file, keeps the result of an earlier run, and leaves no other file
-    beside it."""
+    """Runs the command on a truncated file. Returns whether the command names this file, keeps the result of an earlier
+    run, and leaves no other file beside the result."""
     before = Path("framed").read_bytes()
     cut = Path("cut.messages")
     cut.write_bytes(Path(paths[0]).read_bytes()[:-8])
@@ -72,7 +73,7 @@ def is_named(paths: list[str]) -> bool:
 
 
 def is_counted(report: Report, data: bytes) -> bool:
-    """Returns whether a report has the counts and the line of one process."""
+    """Returns whether a report has the same counts and the same line as one process of `capn`."""
     counted, line = by_one_process(data, "uniq", "--count", "--keep-going")
     lines = told(report).split("\n")
     return lines[0] == counted.decode().strip() and lines[-1] == line

@@ -82,7 +82,7 @@ static void answers() {
     want("show as text", shown(capn::style::text) == "bytes 3 \"hi\\0\"\nend\n");
     want("show as JSON", shown(capn::style::json) == "{\"bytes\":\"686900\"}\n");
     want("show as JSON with texts", shown(capn::style::json_text) == "{\"text\":\"hi\"}\n");
-    /* This dump is longer than the buffer that is tried first. */
+    /* The call first tries a small buffer. This dump is longer than that buffer. */
     const std::string bits = words({1 | 1ull << 32 | 64000ull << 35}) + std::string(8000, '\xff');
     want("a longer text", capn::show(bits, capn::form::bare).size() == 64018);
     want("pack", digits(capn::pack(one)) == "1003100201050000");
@@ -108,7 +108,8 @@ static void answers() {
     want("limits of words", capn::is_canonical_words(loose, {}) && thrown<capn::refusal>([&] {
                                 (void)capn::is_canonical_words(loose, few);
                             }) == "OverBudget at 0:0, paid 0, visits 1");
-    /* The call without a form still works. It reads a single segment without a table. */
+    /* The deprecated call `is_canonical` without a form still works. It takes the bytes as the words of a single
+     * segment, without a table. */
 #if defined(__GNUC__)
 #pragma GCC diagnostic push
 #pragma GCC diagnostic ignored "-Wdeprecated-declarations"
@@ -148,13 +149,14 @@ static void answers() {
     }
     want("nothing large is allocated", largest < 1 << 20);
     munmap(pages, huge);
-    /* Words are passed as bytes. Their size in bytes differs from the number of words. */
+    /* Passes words as bytes. The size in bytes must be eight times the number of words. */
     const std::vector<std::uint64_t> counted = {2ull << 32, 5, 0};
     want("the bytes of words", capn::as_bytes(counted).size() == 24
                                    && capn::check(capn::as_bytes(counted), form::bare).paid == 3);
 }
 
-/* A message in segments is passed as a vector, an array and a span. Some calls copy the segments first. */
+/* Passes the segments of a message as a vector, an array and a span. Some calls copy the segments before they read
+ * them. */
 static void pieces() {
     const std::string far = words({2 | 1ull << 32}), rest = words({1ull << 32, 5});
     const std::vector<capn_segment> two = {{far.data(), 1}, {rest.data(), 2}};
@@ -223,7 +225,8 @@ static void lent() {
                        == CAPN_BAD_LIMITS);
 }
 
-/* Compares two messages. They have the same value in other layouts, or different values, or one is rejected. */
+/* Compares two messages. The two messages have the same value in different layouts, or they have different values, or
+ * one message is rejected. */
 static void comparisons() {
     using capn::form;
     const std::string tight = framed(words({1ull << 32, 5})), other = framed(words({1ull << 32, 6}));
@@ -255,8 +258,8 @@ static void comparisons() {
 /* Tests the path to an error, and the first difference from the canonical form of an accepted message. */
 static void ways() {
     using capn::form;
-    /* A struct with a pointer 1 that refers to a list of two structs. The second of these has a pointer to more bytes
-     * than the message has. */
+    /* The root is a struct whose pointer 1 refers to a list of two structs. The second of these structs has a pointer
+     * to more bytes than the message has. */
     const std::uint64_t too_long = 1 | 2ull << 32 | 99ull << 35;
     const std::string wrong = framed(words({2ull << 48, 0, 1 | 7ull << 32 | 2ull << 35, 8 | 1ull << 48, 0, too_long}));
     const auto way = capn::refusal_way(wrong);
@@ -405,7 +408,7 @@ static void readers() {
     });
     want("an error that was forgotten", thrown<capn::read_error>([&] { (void)forgetful.next(); })
                                             != "nothing");
-    /* The right ways to report the error: an exception, an optional and an expected. */
+    /* The right ways to report an error of read(2): an exception, an optional and an expected. */
     capn::reader careful([&](std::byte *to, std::size_t most) -> std::optional<std::size_t> {
         const ssize_t came = ::read(ends[0], to, most);
         return came < 0 ? std::nullopt : std::optional<std::size_t>(came);
@@ -546,7 +549,7 @@ static void packed_streams() {
             }
             want("all packed messages", got == messages.size() && at == stream.size());
         }
-    /* The stream is truncated at each byte. */
+    /* Truncates the stream at many places. */
     for (std::size_t size = 0; size < apart.size(); size += 1 + size / 40) {
         std::size_t at = 0, got = 0;
         const std::size_t whole = static_cast<std::size_t>(std::upper_bound(ends.begin(), ends.end(), size)
@@ -667,7 +670,7 @@ static void fields() {
     want("a packed one", thrown<std::invalid_argument>([&] { capn::index::of(one, capn::form::packed); })
                              == "the call doesn't take this form");
     want("a refused one", thrown<capn::refusal>([] { capn::index::of(cut); }) == "frame: Cut");
-    /* This message has more pointers than the entries that are tried first. */
+    /* The index first tries a small array of entries. This message has more pointers than that array has entries. */
     std::string many = words({200ull << 48});
     for (int i = 0; i < 200; i++) many += words({0});
     std::string wide(8, '\0');
@@ -677,7 +680,7 @@ static void fields() {
 }
 
 /* Canonical bytes leave out a section that is zero in each struct of a list. A reader may read the list as numbers or
- * as pointers. It gets zeros and nulls, as from the original list. */
+ * as pointers. The reader gets zeros and nulls, as from the original list. */
 static void canonical_lists() {
     const auto all = [](const capn::numbers<std::uint16_t> &numbers) {
         return std::vector<std::uint16_t>(numbers.begin(), numbers.end());
@@ -697,8 +700,9 @@ static void canonical_lists() {
         for (const capn::record one : list.pointers()) count += one.slot(0).is_null();
         want("nulls", count == 2);
     }
-    /* Structs that have only pointers can be read as zeros or as these pointers. Structs that have only words can be
-     * read as these numbers or as nulls. */
+    /* A list of structs that have only pointers can be read as a list of numbers, which are all zero, or as a list of
+     * these pointers. A list of structs that have only words can be read as a list of these numbers, or as a list of
+     * nulls. */
     const std::string pointed = framed(words({1ull << 48, 0x1700000001, 8 | 1ull << 48, 0, 3 | 9ull << 32}));
     const capn::index index = capn::index::of(pointed);
     const capn::rows rows = index.root().as_struct().slot(0).pointers();
@@ -715,7 +719,7 @@ static void canonical_lists() {
     const capn::value data = other.root().as_struct().slot(0);
     want("bytes aren't 16 bits", !data.try_list<std::uint16_t>() && !data.try_pointers());
     want("no list", !other.root().try_list<std::uint8_t>() && !other.root().try_pointers());
-    /* A field that is wider than the element of an older list has its default. */
+    /* If a field is wider than the element of an older list, reading the field returns its default. */
     const std::string older = framed(words({1ull << 48, 1 | 0xaull << 32, 5}));
     const capn::index of_older = capn::index::of(older);
     std::uint16_t field = 0;

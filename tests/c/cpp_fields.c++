@@ -184,8 +184,8 @@ void show_lines(capn::value at) {
         }
 }
 
-// Shows the messages of mixed.py. Before each message stands its length. Each is copied to memory of exactly its
-// length.
+// Shows the messages of mixed.py. Before each message stands its length. Each message is copied to memory of exactly
+// its length.
 void show_mixed(const std::string &all) {
     for (std::size_t from = 0; from + 4 <= all.size();) {
         std::uint32_t size;

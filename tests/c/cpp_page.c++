@@ -1,7 +1,7 @@
 // Runs the programs of docs/CPP.md.
 //
-// Each block of the page is compiled alone and linked with this program. The first word says which block runs, over the
-// bytes of standard input.
+// Each block of the page is compiled alone and linked with this program. The first word of the command line says which
+// block runs. The block reads standard input.
 //
 //     cpp_page check | field | explain | reason | canonical | valid | each | packed | signed DIGEST | compare FILE
 #include <capn.hpp>

@@ -1,8 +1,9 @@
 // Programs that must not compile with capn.hpp, and right programs that must compile.
 //
 // Each number of CASE adds a program that would read bytes after their owner is gone, or that confuses two numbers. A
-// compiler has to reject it, and its message has to contain the word before the colon. Only clang warns about the cases
-// of `dangling`. Without CASE, the file has only the right programs. `tests/c/languages` compiles each case.
+// compiler has to reject this program. The compiler's error has to contain the word that stands before the colon in the
+// line of the case. Only clang warns about the cases of `dangling`. Without CASE, the file has only the right programs.
+// `tests/c/languages` compiles each case.
 #include "capn.hpp"
 #ifdef WITH_KJ
 #include "capn_kj.hpp"
@@ -16,7 +17,7 @@
 
 std::vector<std::byte> make_vector();
 std::string make_string();
-/* A type that contains its bytes. They are copied with it. */
+/* A type that contains its bytes, so that a copy has bytes of its own. */
 struct packet {
     std::byte held[64];
     std::size_t length;

@@ -1,7 +1,7 @@
 // Compares the time of each call of capn.hpp with the time of the same call in C.
 //
 // cpp_time [MOST] fails if a call takes more than MOST times as long as the calls of capn.h that it makes. It compares
-// the shortest times of many rounds, in which both take turns.
+// the shortest times of many rounds. In a round, the call and the calls of capn.h take turns.
 #include "capn.hpp"
 #include <chrono>
 #include <cstdio>
@@ -11,7 +11,7 @@ namespace {
 
 double most = 1e9;
 bool failed = false;
-std::uint64_t sum = 0; /* uses the results, so that the compiler keeps the calls */
+std::uint64_t sum = 0; /* the sum of all results, so that the compiler keeps the calls */
 
 template <class Call> double once(unsigned times, Call call) {
     const auto from = std::chrono::steady_clock::now();

@@ -83,8 +83,8 @@ std::string checked(const capn::checked &it, const capn_figures &figures) {
     return "paid " + std::to_string(it.paid) + ", visits " + std::to_string(it.visits);
 }
 
-/* Returns the result for the bytes. If they are a stream with a valid table, the call on its segments has to return the
- * same result. */
+/* Returns the result for the bytes. If the bytes are a stream with a valid table, the call on the segments of the
+ * stream has to return the same result. */
 template <class Call> std::string both(capn::bytes message, capn::form form, const capn::limits &limits, Call call) {
     const std::string told = answered([&] { return call(message, form); });
     if (form != capn::form::stream) return told;

@@ -6,7 +6,7 @@
 
 enum { ROOM = 1 << 12, ENTRIES = 64, WAY = 128 };
 
-/* The arguments of a call, and its outputs. */
+/* The arguments and the outputs of a call. */
 struct given {
     uint32_t form;
     const uint8_t *bytes;

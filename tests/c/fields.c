@@ -479,10 +479,13 @@ static void by_hand(void) {
     want("other numbers", capn_text(abc, &entry, &text, &length), 0);
 
     /* Tests which kind of list can be read as which. Each kind is read as each other kind, with two elements. */
-    /* Each string has a wanted kind, and each character a found kind: void bits bytes u16 u32 u64 pointers rows. */
+    /* Which kinds of lists can be read as which kinds. A string stands for the kind as which a list is read. A
+     * character of the string stands for the list's own kind, and is `1` if the list can be read. Strings and
+     * characters are in the order void, bits, bytes, u16, u32, u64, pointers, rows. */
     static const char *const taken[] = {
         "1......1", ".1......", "..1....1", "...1...1", "....1..1", ".....1.1", "......11", "1.111111"};
-    static const int64_t full[] = {0, 1, 0xff, 0xffff, 0xffffffff, -1}; /* all bits are 1, from void on */
+    /* the element whose bits are all 1, for each kind from void to u64 */
+    static const int64_t full[] = {0, 1, 0xff, 0xffff, 0xffffffff, -1};
     uint8_t ones[128];
     memset(ones, 0xff, sizeof ones);
     for (uint32_t wanted = CAPN_KIND_VOID; wanted <= CAPN_KIND_ROWS; wanted++)

@@ -101,7 +101,8 @@ static void indexed(uint32_t form, const uint8_t *bytes, size_t size, capn_statu
     need(figures.depth < 2 || capn_check(form, bytes, size, &lower, &report) == CAPN_TOO_DEEP, "less", bytes, size);
     const size_t count = checked->visits;
     need(figures.visits == count && figures.paid == checked->paid, "the figures", bytes, size);
-    capn_entry *all = malloc(count * sizeof *all); /* exactly this size */
+    /* has exactly this size, so that a sanitizer detects an access past the end */
+    capn_entry *all = malloc(count * sizeof *all);
     for (size_t room = count - 1; room <= count; room++) {
         memset(all, 0x55, count * sizeof *all);
         capn_status status = capn_index(form, bytes, size, &limits, all, room, &report);
@@ -115,7 +116,7 @@ static void indexed(uint32_t form, const uint8_t *bytes, size_t size, capn_statu
     free(all);
 }
 
-/* The calls with paths must report what capn_check reported. */
+/* The calls that report paths must report the same error as capn_check. */
 static void led(uint32_t form, const uint8_t *bytes, size_t size, capn_status check, const capn_report *checked) {
     static uint32_t way[2 * 256];
     capn_departed departed;
@@ -171,7 +172,8 @@ static void packing(const uint8_t *bytes, size_t size) {
 }
 
 int LLVMFuzzerTestOneInput(const uint8_t *data, size_t size) {
-    uint8_t *bytes = malloc(size ? size : 1); /* exactly this size, so that a sanitizer detects a longer read */
+    /* has exactly this size, so that a sanitizer detects a read past the end */
+    uint8_t *bytes = malloc(size ? size : 1);
     if (size) memcpy(bytes, data, size);
     limits = limits_of(1u << 16, 1u << 16, 64, CAPN_STRICT);
     for (uint32_t form = 0; form < 3; form++) message(form, bytes, size);

@@ -38,7 +38,8 @@ static uint64_t draw(void) {
 }
 static uint32_t any(uint32_t below) { return (uint32_t)(draw() >> 32) % below; }
 
-/* Returns the last or the first `size` bytes of such pages. For a size of 0 it sometimes returns null. */
+/* Returns the last or the first `size` bytes between two pages that can't be accessed. For a size of 0, sometimes
+ * returns null. */
 static uint8_t *part(uint8_t *start, size_t size) {
     if (!size && !any(3)) return NULL;
     return any(3) ? at_end(start, size) : start;
@@ -162,7 +163,8 @@ static void store(char *line) {
 
 static uint8_t *of_input, *of_limits, *of_out, *of_report, *of_other;
 
-/* The memory that the current call may write, and a sum (FNV-1a) of everything that all calls returned and wrote. */
+/* The memory that the current call may write, and a sum. The sum is FNV-1a over everything that all calls returned and
+ * wrote. */
 static struct { const uint8_t *bytes; size_t size; } written[4];
 static uint32_t written_count;
 static uint64_t sum = 0xcbf29ce484222325;
@@ -321,7 +323,7 @@ static size_t call(uint32_t which, const uint8_t *bytes, size_t size, size_t eno
     case 12: {
         doing = "capn_canonical_with_scratch";
         const size_t lent = any(3) ? any(ROOM / 8) : any(3);
-        uint8_t *scratch = part(of_other, 8 * lent); /* its contents mean nothing after the call */
+        uint8_t *scratch = part(of_other, 8 * lent); /* the contents of the scratch mean nothing after the call */
         out = filled(of_out, room);
         status = capn_canonical_with_scratch(form, bytes, size, limits, scratch, lent, out, room, r);
         need(status != CAPN_MEMORY, "no memory is asked for");

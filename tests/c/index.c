@@ -6,7 +6,8 @@
 
 enum { COUNT = 17, WORDS = 26 };
 
-/* Returns the pointer at `from` to the list at `to`, and the pointer at `from` to the struct at `to`. */
+/* `list` returns the pointer that lies at `from` and refers to a list at `to`. `object` returns the pointer that lies
+ * at `from` and refers to a struct at `to`. */
 static uint64_t list(uint64_t from, uint64_t to, uint64_t width, uint64_t count) {
     return 1 | (to - from - 1) << 2 | width << 32 | count << 35;
 }

@@ -3,7 +3,7 @@
 #define TEST "inputs"
 #include "wanted.h"
 
-/* Every field is 0, whatever was there before. */
+/* Tests that a call has set every field of its report to 0. */
 static void blank(const char *what, const capn_report *r) {
     want(what, r->length | r->at | r->paid | r->visits | r->segment | r->word, 0);
 }
@@ -56,8 +56,8 @@ static void answered(void) {
     want("its length", r.length, 32);
 }
 
-/* Makes each call with a message and buffers at any address. Each of them ends where its allocated block ends, so that
- * a sanitizer detects an access past the end. */
+/* Makes each call with a message and buffers at any address. The message and each buffer end where their allocated
+ * blocks end, so that a sanitizer detects an access past the end. */
 static void anywhere(void) {
     const uint8_t packed[8] = {0x10, 3, 0x10, 2, 1, 5};
     for (size_t off = 0; off < 8; off++)
@@ -159,7 +159,7 @@ static void ranges(void) {
         least = with(least, numbers[i].at, numbers[i].least);
         greatest = with(greatest, numbers[i].at, numbers[i].most);
     }
-    /* A bad tariff and a bad limit. */
+    /* The last entry has a bad tariff as well as the bad limit of the entry before it. */
     bad[count] = bad[count - 1];
     bad[count++].tariff = 9;
     const uint32_t forms[] = {0, 1, 2, 3, 4, UINT32_MAX}, tariffs[] = {2, 3, UINT32_MAX};
@@ -221,7 +221,7 @@ static void announced(void) {
     want("announced", r.at, 1ull << 32);
     want("4,096 segments", capn_check(CAPN_STREAM, most, 8, &greatest, &r), CAPN_FRAME_CUT);
     want("4,097 segments", capn_check(CAPN_STREAM, above, 8, &greatest, &r), CAPN_TOO_MANY_SEGMENTS);
-    /* 2^28 packed zero words. Each 2 bytes are a run of 256 words. */
+    /* Each 2 bytes are a run of 256 zero words. All runs together have more words than the maximum of the call, 256. */
     static uint8_t zeros[2 * 4096];
     for (size_t i = 0; i < sizeof zeros; i += 2) zeros[i + 1] = 255;
     want("a packed run above its maximum", capn_unpack(zeros, sizeof zeros, 256, NULL, 0, &r), CAPN_PACKED_TOO_LONG);

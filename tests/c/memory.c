@@ -1,6 +1,6 @@
 /* Fails each allocation of each call in turn. The call has to return CAPN_MEMORY, leave the buffer unchanged, set the
- * report to 0, and free everything. Then every allocation fails for the calls that need none. These have to return what
- * they return with memory. */
+ * report to 0, and free everything. Then makes the calls that need no allocation while every allocation fails. These
+ * calls have to return what they return with memory. */
 #include "refusing.h"
 #include "usual.h"
 #include <stdio.h>
@@ -129,8 +129,9 @@ static void each(const char *name, call *make, const input *in, int least) {
     printf("memory: %s: refused %d times\n", name, count);
 }
 
-/* The call has to allocate `growths` times and return `wanted`. Then every allocation fails. The call has to return
- * CAPN_MEMORY, or `wanted` if it makes no allocation. */
+/* Tests a call with memory, and then without memory. With memory, the call has to allocate `growths` times and return
+ * `wanted`. Without memory, every allocation fails. Then the call has to return CAPN_MEMORY, or `wanted` if it makes no
+ * allocation. */
 static void wants(const char *name, call *make, const input *in, long growths, uint32_t wanted) {
     capn_report ample, short_of;
     left = -1;

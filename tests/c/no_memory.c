@@ -1,6 +1,6 @@
 /* Makes each call while every allocation fails, on the stored messages that have no table or at most 64 segments. No
- * call may allocate. Each has to return what it returns with memory, for an empty buffer, for a buffer of 1 byte or
- * entry, and for a large buffer. */
+ * call may allocate. Each call has to return what it returns with memory, for an empty buffer, for a buffer of 1 byte
+ * or entry, and for a large buffer. */
 #include "capn.h"
 #include "refusing.h"
 #include <stdio.h>

@@ -49,9 +49,9 @@ static void is_first(const char *what, const uint8_t *bytes, size_t size, capn_s
     want("no more", r.at | r.paid | r.visits | r.segment | r.word, 0);
 }
 
-/* Passes each beginning of messages of one to five segments, at each address, with no byte after it. At first the call
- * reports that it needs 8 bytes, then the length of the table, and then the length of the message. If the message is
- * complete, with or without bytes after it, the call reports its length. */
+/* Passes each beginning of messages of one to five segments, at each address. No byte follows the beginning that is
+ * passed. At first the call reports that it needs 8 bytes, then the length of the table, and then the length of the
+ * message. If the message is complete, with or without bytes after it, the call reports its length. */
 static void beginnings(void) {
     static const uint32_t sizes[5] = {2, 0, 3, 1, 4};
     uint8_t bytes[160];

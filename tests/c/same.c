@@ -170,7 +170,7 @@ static void segments(void) {
     want("which of neither", which, 0);
 }
 
-/* If the first message is rejected, the second isn't read. Both may be the same bytes. */
+/* If the first message is rejected, the second message isn't read. Both messages may be the same bytes. */
 static void order(void) {
     static const uint8_t null[16] = {0, 0, 0, 0, 1};
     uint8_t holds[16];

@@ -1,7 +1,7 @@
 /* Tests canonical bytes with scratch. The messages are written by hand, or are the bytes at the end of lines of
- * standard input, in hexadecimal, in each form and with some limits. With the scratch that it needs or with more, the
- * call has to return and report what capn_canonical does. With a word less, it has to report again how much scratch it
- * needs. It must never allocate. */
+ * standard input, in hexadecimal, in each form and with some limits. If the scratch has as many words as the call
+ * needs, or more, the call has to return and report what capn_canonical does. If the scratch has one word less than the
+ * call needs, the call has to report again how much scratch it needs. The call must never allocate. */
 #define TEST "scratch"
 #include "refusing.h"
 #include "wanted.h"
@@ -71,8 +71,8 @@ static void rooms(struct given *g, const uint8_t *canonical, const capn_report *
     g->room = length;
 }
 
-/* The call may report at most twice that it needs more scratch. With a word less than it needs, it reports this again.
- */
+/* Gives the call the scratch that it asks for, until the scratch is enough. The call may ask for more scratch at most
+ * twice. If it gets one word less than it asked for, it has to ask for the same scratch again. */
 static void scratches(struct given *g, uint64_t most) {
     capn_report report;
     for (int times = 0; call(g, &report) == CAPN_NO_SCRATCH; times++) {

@@ -54,7 +54,8 @@ static void compare(const capn_segment *segments, size_t count, const uint8_t *f
         wanted = capn_canonical(CAPN_STREAM, frame, size, limits, other, room, &told);
         same("canonical", status, wanted, &report, &told, out, other, room);
         if (status > CAPN_NO_ROOM) break;
-        room = round ? told.length - 1 : told.length; /* the next buffer: exactly the length, then a byte less */
+        /* the second buffer has exactly the length, and the third has one byte less */
+        room = round ? told.length - 1 : told.length;
     }
     free(out);
     free(other);
@@ -95,7 +96,7 @@ static void held(const uint8_t *frame, size_t size, const capn_limits *limits) {
     for (size_t i = 0; i < made; i++) free(blocks[i]);
 }
 
-/* Tries segments that no stream has, or only a long stream. */
+/* Tries segments that no stream has, and segments that only a long stream has. */
 static void borders(void) {
     static const uint8_t words[8 * 1024];
     static capn_segment segments[MOST + 1];

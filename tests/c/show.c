@@ -72,7 +72,7 @@ static char *text_of(const struct input *in, size_t *length, capn_status *status
     return text;
 }
 
-/* Makes the same calls while each allocation fails in turn. */
+/* Calls capn_show while each of its allocations fails in turn. With enough memory, the call has to return `wanted`. */
 static void refuse_each(const struct input *in, capn_status wanted) {
     capn_status status = CAPN_MEMORY;
     const long before = live;
@@ -133,7 +133,7 @@ static void answer(char *line) {
     size_t texts_length = 0;
     capn_status status = CAPN_OK;
     capn_report report;
-    /* Several packed messages are unpacked first. */
+    /* Unpacks the packed bytes first if they have several messages. */
     if (in.form == CAPN_PACKED && show(&in, NULL, 0, &report) == CAPN_TRAILING) {
         capn_unpack(in.bytes, size, 1u << 20, NULL, 0, &report);
         size = report.length;

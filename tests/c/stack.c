@@ -122,9 +122,9 @@ int main(int count, char **words) {
             static const uint32_t counts[] = {1, 2, MOST_SEGMENTS};
             depth = depths[d];
             segments = counts[kind / 8];
-            /* An object has one or two pointers. It is a struct, a list of pointers, or a list of structs with one
-             * pointer each. The first pointer leads to the next object. In the last shape, it is a far pointer. The
-             * second pointer refers to an empty struct. */
+            /* An object has one or two pointers. There are four shapes of objects: a struct, a list of pointers, a list
+             * of structs with one pointer each, and a struct behind a far pointer. The first pointer of an object leads
+             * to the next object. The second pointer refers to an empty struct. */
             int is_wide = kind % 8 > 3, shape = kind % 4;
             uint32_t many = is_wide ? 2 : 1, down = 0;
             size_t at = 0;

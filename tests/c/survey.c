@@ -1,5 +1,5 @@
-/* Tests capn_survey on messages that are written by hand, on invalid messages, and against the other calls. The message
- * lies at any address, next to a page that can't be accessed. */
+/* Tests capn_survey on messages that are written by hand and on invalid messages, and compares it with the other calls.
+ * The message lies at any address, next to a page that can't be accessed. */
 #define TEST "survey"
 #include "wanted.h"
 

@@ -76,7 +76,8 @@ int main(void) {
     stream[5] = WORDS >> 8;
     for (size_t i = 0; i < DEPTH; i++) {
         uint8_t *slot = stream + 16 + (i ? 8 * (2 * i - 1) : 0);
-        slot[0] = i ? 4 : 0; /* skips the second pointer of its own struct */
+        /* the offset 1, because the second pointer of the struct lies between the first pointer and the next struct */
+        slot[0] = i ? 4 : 0;
         slot[i + 1 < DEPTH ? 6 : 4] = i + 1 < DEPTH ? 2 : 1;
     }
     stream[sizeof stream - 8] = 7;

@@ -1,5 +1,5 @@
-/* The limits that the programs of this folder pass: the defaults, or the defaults with some limits changed. If a limit
- * is added to the library, `usual` and limits_of have its default. */
+/* The limits that the programs of this folder pass: the defaults, or the defaults with some limits changed. Whenever
+ * the library gets another limit, `usual` and limits_of get the default of this limit. */
 #ifndef CAPN_TESTS_USUAL_H
 #define CAPN_TESTS_USUAL_H
 #include "capn.h"

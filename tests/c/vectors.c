@@ -8,7 +8,8 @@
 
 static uint8_t *of_digits(const char *digits, size_t *size) {
     *size = strcmp(digits, "-") ? strlen(digits) / 2 : 0;
-    uint8_t *bytes = *size ? malloc(*size) : NULL; /* exactly this size, so that a sanitizer detects a longer read */
+    /* has exactly this size, so that a sanitizer detects a read past the end */
+    uint8_t *bytes = *size ? malloc(*size) : NULL;
     for (size_t i = 0; i < *size; i++) {
         unsigned byte;
         sscanf(digits + 2 * i, "%2x", &byte);
@@ -22,7 +23,7 @@ static void digits(const uint8_t *bytes, size_t size) {
     for (size_t i = 0; i < size; i++) printf("%02x", bytes[i]);
 }
 
-/* Prints the text of an error. The text of an error of packing or unpacking loses its form. */
+/* Prints the text of an error. If the error is one of packing or unpacking, leaves the form out of the text. */
 static void refusal(capn_status status, const capn_report *r, int of_packing) {
     char text[128];
     if (capn_refusal_text(status, r, text, sizeof text) >= sizeof text) printf("a text that is too long: ");

@@ -25,11 +25,11 @@ static inline uint8_t *between_pages(void) {
     return all + PAGE;
 }
 
-/* Returns the last `size` bytes of such pages. */
+/* Returns the last `size` bytes of these ALL_PAGES bytes, right before a page that can't be accessed. */
 static inline uint8_t *at_end(uint8_t *pages, size_t size) { return pages + ALL_PAGES - size; }
 
-/* Writes the bytes at the end of a line, in hexadecimal, to the end of such pages. Returns null if the bytes don't fit.
- */
+/* Writes the bytes at the end of a line, in hexadecimal, to the end of ALL_PAGES bytes, right before a page that can't
+ * be accessed. Returns null if the bytes don't fit. */
 static inline uint8_t *bytes_at_end(const char *line, uint8_t *pages, size_t *size) {
     const char *digits = strrchr(line, ' ');
     digits = digits ? digits + 1 : line;

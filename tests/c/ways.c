@@ -59,7 +59,8 @@ static void kept(const char *what, size_t from) {
         }
 }
 
-/* The call writes a path only if it fits. What it returns and reports must not depend on the size of the array. */
+/* The call writes a path only if the path fits into the array. What the call returns and reports must not depend on the
+ * size of the array. */
 static void rooms(call *make, const struct input *in, capn_status status, const capn_report *told, size_t numbers) {
     static uint32_t all[MOST];
     capn_departed first, other;
@@ -226,7 +227,7 @@ static void answer(const struct input *in) {
     }
 }
 
-/* Returns whether a line is a call that has limits. Sets the input of the call. */
+/* Returns whether a line is a call that has limits. If it is, sets the input to the bytes of the call. */
 static int is_call(const char *from, struct input *in) {
     char what[16], form[16];
     int at = 0;

@@ -23,7 +23,7 @@ def departure(value):
 
 
 def told(lines):
-    """Returns what these lines of `explain` say, and `?` for bytes that can't be read."""
+    """Returns what these lines of `explain` say. Returns `?` if the bytes can't be read."""
     values = dict(line.split(": ", 1) for line in lines if ": " in line)
     if "way" in values:
         return f"way {values['way']}"

@@ -21,7 +21,8 @@ BLOCK = re.compile(r"^```(sh|bash|text)\n(.*?)^```$", re.M | re.S)
 
 
 def pairs(page):
-    """Yields each block with its language, and with the output that the page shows or None."""
+    """Yields each block with its language, and with the output that the page shows. If the page shows no output, it is
+    None."""
     found = BLOCK.findall(page)
     for at, (language, block) in enumerate(found):
         if language != "text":
@@ -64,8 +65,8 @@ def tried(shell, capn):
 
 
 def main():
-    # CAPN would give the scripts of contrib/ another program. Here they use the program of the search path, as on the
-    # page.
+    # Removes CAPN from the environment. Then the scripts of contrib/ run the program of the search path, as they do for
+    # a reader of the page.
     capn = os.environ.pop("CAPN", "") or str(TOP / "crates" / "capn" / "out" / "capn")
     failed = 0
     for shell in filter(shutil.which, sys.argv[1:] or ["sh"]):

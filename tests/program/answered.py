@@ -17,7 +17,7 @@ import help_texts
 import model
 
 HELP = help_texts.helps()
-# The words for a value in the texts of help that stand for a number.
+# The words that stand for a number where a text of help names the value of an option.
 NUMBERS = ("N", "K")
 
 

@@ -63,7 +63,8 @@ def data_of(found):
 
 
 def elements_of(found):
-    """Returns the elements of a list whose elements have no size. It may only be a list of structs or of nothing."""
+    """Returns the elements of a list whose elements have no size. Raises a Mismatch unless the object is null, a list
+    of structs, or a list of elements without size."""
     if found.kind not in ("null", "void", "rows"):
         raise capn.Mismatch(f"there are no such elements, but {found!r}")
     return found.rows()

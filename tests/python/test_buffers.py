@@ -58,7 +58,8 @@ class AfterAnException(unittest.TestCase):
             yield lambda call=call: call([data], 5, in_place=True)
 
     def test_a_bytearray_can_be_changed(self):
-        # No call accepts this message within a budget of one word. Its length isn't a multiple of a word.
+        # No call accepts the first of these messages within a budget of one word. The length of the second isn't a
+        # multiple of a word, and the root of the third leads outside of the message.
         for bytes_of in SMALL, SMALL + b"x", stream(bytes.fromhex("0000000001000000")):
             data = bytearray(bytes_of)
             raised = 0
@@ -97,7 +98,8 @@ class AfterAnException(unittest.TestCase):
 
 class Pipes(unittest.TestCase):
     def test_an_exception_before_a_pipe_is_begun_closes_nothing(self):
-        # The memory of a pipe may contain any device and inode numbers, even those of other files.
+        # The new memory of a pipe may contain any numbers before the pipe is begun. Here it contains the descriptors of
+        # other files, which must stay open.
         class Interrupted(Exception):
             pass
 
@@ -169,7 +171,8 @@ def long():
 
 
 def shown(data, form, limits):
-    """No call reads the bytes of this text in place, because its length isn't known yet."""
+    """Returns a dump, for which the bytes are read in place. Without the patch, capn.show copies the bytes, because the
+    length of the dump isn't known yet."""
     with unittest.mock.patch.object(capn._show, "_taken", lambda data, form, limits, _: capn._calls._taken(
             data, form, limits, True)):
         return capn.show(data, form, limits)

@@ -68,12 +68,13 @@ def segments_of(source):
     if kind < 0.5:
         return generated.message(source)
     if kind < 0.6:
-        # A list that has bits set after its last byte.
+        # Returns a list of bytes. In some cases, bits are set after its last byte.
         count = source.randint(1, 7)
         return [[1 | 2 << 32 | count << 35, source.getrandbits(8 * count + source.choice([0, 0, 8]))]]
     segments = archives.good(source)
     segment = source.choice([one for one in segments if one])
-    # In most cases this is one of the last words, because these are deep in the message.
+    # Chooses the greatest of three random places. In most cases, the word there is one of the last words of the
+    # segment, which are deep in the message.
     at = max(source.randrange(len(segment)) for _ in range(3))
     wrong = [3 | source.randrange(4) << 32, generated.pointer(source, len(segment), len(segments))]
     segment[at] = source.choice([*wrong, segment[at] ^ 1 << source.randrange(64)])
@@ -156,7 +157,8 @@ class AsExplained(unittest.TestCase):
                     self.assertEqual(stop_of(refusal), stop_of(refused))
                     ways.add(refusal.way)
                     if refused.name == "TooManyWords":
-                        # From an iterator, a call takes no more segments than it needs to exceed the limit.
+                        # If a call gets the segments from an iterator, it takes no more segments than it needs to
+                        # exceed the limit. So it may report fewer words.
                         self.assertEqual(of_iterator.name, refused.name)
                         self.assertTrue(limits.message_words < of_iterator.at <= refused.at)
                     else:
@@ -179,7 +181,8 @@ class AsExplained(unittest.TestCase):
             self.assertEqual(stop_of(refusal_of(capn.check_segments, [first, *between, last])), stop_of(refusal))
 
     def test_the_longest_way(self):
-        # 256 nested lists of structs, with a struct in the last one.
+        # The message has 256 nested lists of structs, which is as deep as the limit allows. The struct in the last list
+        # has a pointer to one more struct, which is too deep.
         words = []
         for _ in range(256):
             words += [1 | 7 << 32 | 1 << 35, 1 << 2 | 1 << 48]
@@ -196,8 +199,8 @@ class AsExplained(unittest.TestCase):
         tried = 0
         for case, answer in stored():
             words = case.split()
-            # Runs with --keep-going are left out. Such a run explains several messages, each as a run without this
-            # option does.
+            # Leaves out runs with --keep-going. Such a run explains several messages, and explains each as a run
+            # without this option does.
             if words[0] != "archive" or words[2] != "explain" or "--keep-going" in words:
                 continue
             form, bounds, options, data = "stream", {}, words[3:-1], bytes.fromhex(words[-1].replace("-", ""))

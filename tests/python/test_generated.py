@@ -20,7 +20,7 @@ TRIED = 10_000
 
 
 def calls():
-    """Lines for tests/c/vectors.c. For each message there are one or more calls with a form and limits."""
+    """Makes lines for tests/c/vectors.c. For each message, there are one or more calls with a form and limits."""
     source = random.Random(65)
     for _ in range(TRIED):
         words = generated.message(source) if source.random() < 0.7 else archives.good(source)

@@ -78,7 +78,7 @@ class KeepGoing(unittest.TestCase):
                      if isinstance(one, capn.Refusal)]
         self.assertEqual((refusal.number, refusal.offset, refusal.way, refusal.byte), (2, 32, (), 8))
         self.assertEqual((refusal.text, refusal.place), ("Range at 0:0, paid 0, visits 1", (0, 0)))
-        # The refusal keeps no part of the reader alive.
+        # The refusal has no traceback, so it keeps no part of the reader alive.
         self.assertIsNone(refusal.__traceback__)
 
     def test_digests(self):

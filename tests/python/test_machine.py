@@ -10,22 +10,22 @@ import capn
 from messages import stream
 from tried import IS_SANITIZED
 
-# The words of a segment whose root is a list of null pointers: 16 MiB.
+# The words of a segment of 16 MiB, whose root is a list of null pointers.
 COUNT = (1 << 21) - 1
 SEGMENT = (1 | (6 | COUNT << 3) << 32).to_bytes(8, "little") + bytes(8 * COUNT)
 
-# 2^14 groups of 256 zero words: 32 KiB that unpack to 32 MiB.
+# PACKED has 2^14 groups of 256 zero words. Its 32 KiB unpack to 32 MiB.
 START = """
 import capn, resource
 PACKED = b"\\0\\xff" * (1 << 14)
 """
-# From here on the process may allocate 8 MiB more.
+# Limits the process to the memory that it uses now and 8 MiB more.
 LITTLE = """
 with open("/proc/self/statm") as file:
     used = int(file.read().split()[0]) * resource.getpagesize()
 resource.setrlimit(resource.RLIMIT_AS, (used + (8 << 20), resource.RLIM_INFINITY))
 """
-# A message of this many words, with a root that is rejected.
+# Checks a packed message of 32 MiB, whose root is rejected, and keeps the refusal.
 REFUSED = """
 import struct
 try:
@@ -33,7 +33,7 @@ try:
 except capn.Refusal as refused:
     refusal = refused
 """
-# The calls run without memory first, and then with memory again.
+# Asks for the path while no memory is left, and asks again after the limit on memory is lifted.
 WAY = """
 try:
     refusal.way
@@ -60,7 +60,8 @@ class Threads(unittest.TestCase):
         self.addCleanup(sys.setswitchinterval, sys.getswitchinterval())
 
     def test_another_thread_runs_during_each_call(self):
-        # No thread is forced to release the lock, so another thread runs only if a call releases the lock.
+        # Makes sure that no thread is forced to release the interpreter's lock. Then another thread runs only if a call
+        # releases the lock.
         sys.setswitchinterval(1000)
         message = stream(SEGMENT)
         packed, look = capn.pack(message), self.looks(message[:-8] + b"\7" + bytes(7))
@@ -132,7 +133,7 @@ class Memory(unittest.TestCase):
         self.assertRegex(child(START, LITTLE, "capn.departure(PACKED, 'packed')"), "^MemoryError")
 
     def test_there_is_none_for_a_way(self):
-        # Once there is memory, the path is searched for again.
+        # The first search for the path fails for lack of memory. A second search, with enough memory, finds the path.
         self.assertEqual(child(START, REFUSED, LITTLE, WAY), f"MemoryError: capn: {TEXT}\n() 8\n")
 
     def test_there_is_enough(self):

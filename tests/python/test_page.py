@@ -62,7 +62,7 @@ class Page(unittest.TestCase):
         with tempfile.TemporaryDirectory() as folder:
             (Path(folder) / "message").write_bytes(message)
             (Path(folder) / "messages").write_bytes(message)
-            # A deprecation warning is an error.
+            # Makes each deprecation warning an error.
             ran = subprocess.run([sys.executable, "-B", "-W", "error::DeprecationWarning", "-c", f"{code}\n{more}"],
                                  cwd=folder, capture_output=True, check=False, text=True)
         return ran.returncode, ran.stdout + ran.stderr
@@ -79,7 +79,8 @@ class Page(unittest.TestCase):
         self.assertEqual(self.run_on(MESSAGE[:-8], first), (1, "rejected: frame: Cut\n"))
         self.assertEqual(self.run_on(MESSAGE * 2, first), (1, "rejected: trailing bytes at 32\n"))
         self.assertEqual(self.run_on(b"", first), (1, "rejected: frame: Empty\n"))
-        # The message has 1 MiB with its segment table. A longer message is rejected.
+        # With its segment table, this message has 1 MiB, which is as long as the program accepts. A longer message is
+        # rejected.
         most = framed((1 << 17) - 1)
         self.assertEqual(self.run_on(most, first), (0, f"{capn.digest(most).hex()}\n"))
         for longer in most + b"x", framed(1 << 17), framed(1 << 18), bytes((1 << 20) + 1):
@@ -104,20 +105,21 @@ class Page(unittest.TestCase):
 
     def test_read(self):
         read = program("root.uint(64, 0, default=7)")
-        # The number is stored XOR 7.
+        # A message has the number XOR 7, since 7 is the field's default.
         self.assertEqual(self.run_on(TEXT, read), (0, "2 abc\n"))
         self.assertEqual(self.run_on(MESSAGE, read), (0, "2 nobody\n"))
         self.assertEqual(self.run_on(bytes(4) + b"\1" + bytes(11), read), (0, "7 nobody\n"))
         self.assertEqual(self.run_on(CHILDREN, read), (0, "7 nobody\nab\nnobody\n"))
-        # In messages of an older writer, the children are texts or numbers. Each is read as a struct with only this
-        # field.
+        # In messages of an older writer, the children are texts or numbers. Each child is read as a struct, and the
+        # text or the number is its only field.
         self.assertEqual(self.run_on(children("0100000016000000" "0500000012000000" "0000000000000000"
                                               "6100000000000000"), read), (0, "7 nobody\na\nnobody\n"))
         for numbers in "0100000010000000", "0100000012000000", "0100000013000000", "0100000014000000":
             self.assertEqual(self.run_on(children(numbers + "0500000000000000"), read),
                              (0, "7 nobody\nnobody\nnobody\n"))
-        # A list of bits isn't a list of structs. Three bytes aren't a text if the last byte isn't zero. A list of bytes
-        # isn't a struct, and a struct isn't a list. A text may not be UTF-8.
+        # Reads objects as other kinds than theirs. A list of bits isn't a list of structs. Three bytes aren't a text if
+        # the last byte isn't zero. A list of bytes isn't a struct, and a struct isn't a list. The bytes of a text may
+        # not be UTF-8.
         for message, why in (
             (TEXT.replace(b"\x22", b"\x1a"), "the last byte of a text is zero"),
             (TEXT.replace(b"abc", b"\xffbc"), "'utf-8' codec can't decode byte 0xff"),
@@ -132,7 +134,8 @@ class Page(unittest.TestCase):
             self.assertRegex(wrote, f"(?:^|\n)rejected: {why}")
 
     def test_describe(self):
-        # A zero word at the end of a struct, and a list of more bytes than the message has.
+        # Shows that a zero word at the end of a struct isn't canonical, and that a list of more bytes than the message
+        # has is rejected.
         for message, expected in (
             (TEXT, "canonical"),
             (MESSAGE, "not canonical: at byte 8: 0000000002000000 (struct of 2 words and 0 slots, offset 0), canonical"
@@ -151,7 +154,7 @@ class Page(unittest.TestCase):
         self.assertEqual(self.run_on(b"", stream), (0, ""))
         self.assertEqual(self.run_on(MESSAGE + MESSAGE[:-8], stream),
                          (1, f"{figures}\nrejected: message 2 at 32: frame: Cut\n"))
-        # An error of the call in the loop has no number.
+        # The call in the loop reports an error without the number of the message.
         self.assertEqual(self.run_on(MESSAGE + WRONG, stream),
                          (1, f"{figures}\nrejected: Range at 0:0, paid 0, visits 1\n"))
 
@@ -179,7 +182,7 @@ class Page(unittest.TestCase):
         exec(code, found)
         for sent, expected in (
             (capn.pack(MESSAGE) * 3, 3), (b"", 0),
-            # 64 KiB of these bytes unpack to more messages than one call returns.
+            # 64 KiB of such packed zeros unpack to more messages than one call returns.
             (capn.pack(MESSAGE) + b"\0\xff" * 4, "message 2 at 32: "),
             (capn.pack(MESSAGE * 2)[:-1], "message 2 at 32: packed: Cut at "),
         ):

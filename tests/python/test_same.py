@@ -1,5 +1,5 @@
-"""Tests the comparison of two messages. They have the same value in other layouts, or different values, or one of them
-is rejected."""
+"""Tests the comparison of two messages. The two messages have the same value in different layouts, or they have
+different values, or one message is rejected."""
 import copy
 import mmap
 import pickle

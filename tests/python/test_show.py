@@ -127,7 +127,7 @@ class Shown(unittest.TestCase):
         self.assertRaises(ValueError, capn.show, message)
 
     def test_deep(self):
-        # 256 nested lists of structs.
+        # Shows a message of 256 nested lists of structs, which is as deep as a limit allows.
         words = []
         for level in range(256):
             words += [1 | 7 << 32 | 1 << 35, 1 << 2 | 1 << 48]

@@ -23,7 +23,7 @@ from test_streams import SECONDS, SMALL, Blocking, Peeking
 
 LONG = stream(struct.pack("<IHH", 0, 600, 0) + bytes(range(1, 241)) * 20)
 # Messages of one segment, of two segments, and of no words; equal messages next to each other; and a message that is
-# longer than one look.
+# longer than what a reader looks at in one call.
 MESSAGES = [SMALL, SMALL, stream(bytes(8), bytes(16)), stream(b""), SMALL, LONG, SMALL]
 
 
@@ -61,7 +61,7 @@ def taken(found):
 
 
 class EachCall(unittest.TestCase):
-    """Raises an exception after each call that is made."""
+    """Reads each stream again and again. In each run, an exception is raised after a later call in the package."""
 
     def files(self, data, folder):
         """Yields functions that make files of these bytes."""
@@ -125,7 +125,7 @@ class EachCall(unittest.TestCase):
                               lambda file: capn.messages(file, packed, read_ahead=ahead), MESSAGES)
 
     def test_digests(self):
-        # a message without words has no digest, and would end the run
+        # Leaves out the message without words, which has no digest. Its rejection would end the run.
         messages = [it for it in MESSAGES if it != stream(b"")]
         self.each(b"".join(messages), capn.digests, [capn.digest(message) for message in messages])
 
@@ -167,8 +167,8 @@ class EachCall(unittest.TestCase):
 
 
 class Loops(unittest.TestCase):
-    """A handler's exception ends a loop, which goes on afterwards. The loop loses no message, and returns none
-    twice."""
+    """A handler's exception ends a loop over a stream, and another loop goes on with the stream. No message is lost,
+    and none is returned twice."""
 
     def test_loops_go_on(self):
         is_in_loop, raised = False, 0
@@ -179,8 +179,8 @@ class Loops(unittest.TestCase):
                 is_in_loop = False
                 raise Interrupted
 
-        # The signals come by the processor time of this process. So each call has some time between two signals,
-        # whatever else runs.
+        # A timer sends the signals after some processor time of this process. So each call has some time between two
+        # signals, whatever else runs on the machine.
         before = signal.signal(signal.SIGVTALRM, handler)
         messages = [stream((2 << 32).to_bytes(8, "little") + number.to_bytes(16, "little")) for number in range(20000)]
         try:
@@ -255,7 +255,8 @@ class Signals(unittest.TestCase):
             for pair, buffering in (os.pipe, -1), (os.pipe, 0), (of_sockets, -1), (of_sockets, 0):
                 for ahead in False, True:
                     if pair is of_sockets and packed and not ahead and not buffering:
-                        # A packed stream would be read group by group.
+                        # Leaves out packed streams from an unbuffered socket, which the package would read group by
+                        # group.
                         continue
                     with self.subTest(packed=packed, pair=pair, buffering=buffering, ahead=ahead):
                         read, write = pair()

@@ -24,8 +24,8 @@ def setup(folder, *words):
 
 
 def top_in(folder):
-    """Copies the repository's top, with the library at its place, into a folder. Returns the copy, and what is in its
-    folder python."""
+    """Copies the top of the repository into a folder, with the library at its place. Returns the copy, and a list of
+    what is in the folder python of the copy."""
     top = os.path.join(folder, "top")
     shutil.copytree(os.path.dirname(SOURCE), top, ignore=shutil.ignore_patterns("build", "*.egg-info"))
     os.mkdir(os.path.join(top, "build"))

@@ -16,7 +16,7 @@ SMALL = bytes.fromhex("0000000003000000" "0000000002000000" "0500000000000000" "
 
 
 class Canonical(unittest.TestCase):
-    """`is_canonical` reads bare words. With a form, it reads that form."""
+    """Without a form, `is_canonical` reads the bytes as bare words. With a form, it reads the bytes as this form."""
 
     def test_a_frame(self):
         # Read as bare words, the segment table is a pointer to a struct whose data is the segment. This struct is
@@ -137,7 +137,7 @@ class Schemas(unittest.TestCase):
             (("pointers", [text("abc"), None]), [(0, "bytes"), (0, "null")], None, ["bytes", "null"]),
             (("rows", 1, 2, [([0x10003], [None, None]), ([4], [text("abc"), None])]), [(3, "null"), (4, "bytes")],
              [3, 4], ["null", "bytes"]),
-            # Structs without words read the number's default, and structs without pointers read a null pointer.
+            # If a struct has no words, its number is the default. If a struct has no pointers, its pointer is null.
             (("rows", 1, 0, [([5], [])]), [(5, "null")], [5], ["null"]),
             (("rows", 0, 1, [([], [text("abc")])]), [(0, "bytes")], [0], ["bytes"]),
             (("rows", 0, 0, [([], [])] * 2), [(0, "null")] * 2, [0, 0], ["null", "null"]),
@@ -207,7 +207,8 @@ class Schemas(unittest.TestCase):
             for bit in range(70):
                 is_set = bit < width and bool(stored[bit // 8] >> bit % 8 & 1)
                 self.assertEqual((row.bool(bit), row.bool(bit, True)), (is_set, not is_set))
-        # The byte 5 is read with a schema that has a number of 16 bits with the default 7.
+        # Reads the byte 5 as a field of 16 bits with the default 7. The byte is too short for the field, so the field
+        # has its default.
         message = b"".join(word.to_bytes(8, "little") for word in (1 << 48, 1 | (2 | 1 << 3) << 32, 5))
         self.assertEqual(capn.read(message, "bare").root.struct().slot(0).rows()[0].uint(16, 0, default=7), 7)
 
@@ -228,7 +229,7 @@ class Schemas(unittest.TestCase):
                 self.assertRaises(capn.Mismatch, wrong)
 
     def test_texts_and_data(self):
-        # An error that the sender causes is always a `Mismatch`. It may have other classes, too.
+        # If the sender causes an exception, the exception is always a `Mismatch`. It may have other classes, too.
         values = [None, ("struct", [1], [None]), ("list", 0, 3, b""), ("list", 1, 3, bytes(8)), text("abc"),
                   ("list", 3, 1, bytes(8)), ("pointers", [None]), ("rows", 1, 1, [([5], [None])]),
                   ("list", 2, 3, b"abc" + bytes(5)), ("list", 2, 0, b""), ("list", 2, 3, b"\xff\xfe\0" + bytes(5))]

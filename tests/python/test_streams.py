@@ -44,7 +44,8 @@ def in_time(call, *arguments):
 
 
 class Blocking:
-    """A file that returns chunks, and None if it has no bytes now. A chunk that is an exception is raised."""
+    """A file that returns chunks. It returns None if it has no bytes now. If a chunk is an exception, the file raises
+    it."""
 
     def __init__(self, pieces):
         self.pieces, self.read_at_all = list(pieces), 0
@@ -143,7 +144,8 @@ class NoByteAfterIt(unittest.TestCase):
                         with self.subTest(packed=packed, shape=shape, file=type(file)):
                             found = capn.messages(file, packed=packed)
                             self.assertEqual(next(found), message)
-                            # Another reader may go on between two of these calls.
+                            # A new reader reads the second message. It can do so because the first reader took no byte
+                            # after its message.
                             self.assertEqual(next(capn.messages(file, packed=packed)), message)
                             rest = b""
                             while piece := file.read(100):
@@ -185,8 +187,8 @@ class NoByteAfterIt(unittest.TestCase):
         self.assertGreater(seen, 500)
 
     def test_bytes_that_come_one_by_one_are_unpacked_once(self):
-        # 60,000 bytes that don't pack well, through a buffer of one byte. This would take seconds if each byte unpacked
-        # all earlier bytes again.
+        # Reads packed bytes of 60,000 random bytes through a buffer of one byte. If the reader unpacked all earlier
+        # bytes again whenever a byte comes, this would take seconds.
         message = stream(random.Random(70).randbytes(60_000))
         sent, start = capn.pack(message), time.process_time()
         found = capn.messages(io.BufferedReader(io.BytesIO(sent), 1), packed=True)
@@ -228,7 +230,8 @@ class NoByteAfterIt(unittest.TestCase):
             self.assertIn(file.read(), (b"after", sent + b"after"))
 
     def test_a_group_that_two_messages_share(self):
-        # 256 zero words in one group: many messages without words, and a part of a message.
+        # Packs all messages together. The zero words then form one group, which has many messages without words and a
+        # part of another message.
         text = capn.pack(SMALL * 3 + stream(b"") * 10 + SMALL)
         for file in io.BytesIO(text), Blocking([text]), Peeking([text]):
             self.assertEqual(list(capn.messages(file, packed=True)), [SMALL] * 3 + [stream(b"")] * 10 + [SMALL])
@@ -275,7 +278,7 @@ class Wound(unittest.TestCase):
         self.each(parts, run)
 
     def test_it_is_wound(self):
-        # The long messages come last, because a look sees only their beginning.
+        # The long messages come last. When a reader looks ahead, it sees only their beginning.
         parts = [SMALL, SHAPES[1], SMALL, SMALL] + [stream(random.Random(73).randbytes(40_000))] * 2
 
         def run(file, found, sent):
@@ -314,7 +317,7 @@ class Wound(unittest.TestCase):
                     at = source.randrange(len(parts))
                     file.seek(places[at])
                 elif source.random() < 0.1:
-                    # Another reader reads a message.
+                    # Something else reads a message from the file.
                     self.assertEqual(file.read(len(sent[at])), sent[at])
                     at += 1
                     continue
@@ -494,7 +497,7 @@ class AfterAnException(unittest.TestCase):
         try:
             for file, other, packed, sent in self.pipes():
                 if isinstance(file, io.BufferedReader):
-                    # The reader forgets what it read before the exception.
+                    # Leaves out buffered files. A BufferedReader forgets what it read before the exception.
                     continue
                 found = capn.messages(file, packed=packed)
                 for message in SHAPES[:3] * 2:
@@ -784,7 +787,8 @@ class Splitters(unittest.TestCase):
                 self.assertEqual(refused, fault)
 
     def test_memory_that_is_there_later(self):
-        # Finding a message of several segments allocates memory.
+        # The package allocates memory to find the end of a message of several segments. Here this allocation fails
+        # once.
         message, ffi = SHAPES[1], capn._packed.ffi
         look = ffi.typeof("capn_look *")
         refusals = []
@@ -804,7 +808,7 @@ class Splitters(unittest.TestCase):
 
         def once_of_one(call):
             """Returns the call that looks at one message, except that the first call that succeeds reports that memory
-            is out. The call returns a number of bytes, so 0 is a failure."""
+            is out. The call returns a number of bytes. If memory is out, this number is 0."""
             def little(text, size, one):
                 taken = call(text, size, one)
                 if taken and not refusals:
@@ -952,7 +956,7 @@ class Files(unittest.TestCase):
         self.assertEqual(list(found), [])
 
     def test_memory_grows_as_bytes_come(self):
-        # The segment table announces 64 MiB, and few bytes come.
+        # The segment table announces 64 MiB, but only few bytes come.
         asked = []
 
         class File:

@@ -63,7 +63,7 @@ def each_kind(sent, folder):
 
 
 def close(file):
-    """Closes a file. Bytes aren't closed."""
+    """Closes a file. Does nothing for bytes."""
     if not isinstance(file, bytes):
         file.close()
 
@@ -173,8 +173,8 @@ class Handlers(unittest.TestCase):
     """When a signal comes, its handler calls the stream that is being read."""
 
     def reads_in_between(self, found, call, wanted):
-        """Makes another call from inside the package's first call of C. The stream is in use, so the other call has to
-        fail."""
+        """Makes another call while the package makes its first call of C. The stream is in use, so the other call has
+        to fail."""
         wrong, got = [], []
 
         def watch(frame, event, _):

@@ -41,7 +41,7 @@ class Splitters(unittest.TestCase):
     LIMITS = capn.Limits(message_words=1 << 10, budget=1 << 10)
 
     def test_few_bytes_are_many_messages(self):
-        # One MiB unpacks to 134,217,728 messages.
+        # One MiB of these packed zeros unpacks to 134,217,728 messages.
         splitter = capn.Splitter("packed", self.LIMITS)
         found, took = peak(lambda: splitter.feed(MANY * (1 << 19)))
         self.assertLess(took, 64 * MIB)
@@ -73,7 +73,8 @@ class Splitters(unittest.TestCase):
         splitter.end()
 
     def test_a_table_is_looked_at_before_its_message_is_unpacked(self):
-        # The message announces 2,048 words, and 128 MiB of zeros follow.
+        # The segment table announces 2,048 words, which is over the limit. After the table come packed zeros that
+        # unpack to 128 MiB.
         splitter = capn.Splitter("packed", self.LIMITS)
         data = capn.pack((1 << 11 << 32).to_bytes(8, "little")) + MANY * (1 << 16)
         wrong, took = peak(lambda: splitter.feed(data))
@@ -90,7 +91,8 @@ class Splitters(unittest.TestCase):
         self.assertLess(took, 16 * MIB)
 
     def test_as_many_as_were_fed_come_at_once(self):
-        # Bytes that pack like ordinary messages come in one call, however long they are.
+        # If packed bytes unpack like ordinary messages, one call returns all their messages, however many bytes there
+        # are.
         source = random.Random(5)
         parts = [stream(source.randbytes(8 * source.randint(0, 40))) for _ in range(60_000)]
         splitter = capn.Splitter("packed")
@@ -143,7 +145,7 @@ class Streams(unittest.TestCase):
 
     def test_every_other_way(self):
         class Plain:
-            """A file without `peek`. A read returns all bytes that it has."""
+            """A file without `peek`. The first call of `read` returns all bytes of the file."""
 
             def __init__(self, data):
                 self.data = [data]

@@ -249,7 +249,8 @@ class Fields(unittest.TestCase):
     def test_defaults(self):
         for kind in "Old", "New":
             self.assertEqual(self.fields(self.encoded(kind, "()")), self.USUAL)
-        # A struct that is shorter than its type, or that has null pointers.
+        # Reads structs that may have fewer words than their type, and that have no pointers. Each field has its
+        # default.
         for words in range(7):
             root = capn.read(bare(("struct", [0] * words, [])), "bare").root
             self.assertEqual(self.fields(root), self.USUAL)
@@ -265,7 +266,7 @@ class Fields(unittest.TestCase):
         new = self.encoded("New", written.format("[(number = 1), (number = 2, name = \"x\")]"))
         self.assertEqual((self.fields(old), self.fields(new)), (wanted, wanted))
         self.assertEqual((old.slots[1].kind, new.slots[1].kind), ("u16", "rows"))
-        # The newer type also reads the older message.
+        # The fields of the newer type can also be read from the message of the older type.
         self.assertEqual((old.uint(64, 6, 9), new.uint(64, 6, 9), old.text(2), new.text(2, "x")), (9, 9, "", "x"))
 
     def test_the_number_of_the_review(self):

@@ -30,8 +30,8 @@ class Refusals(unittest.TestCase):
                     self.assertEqual(stop_of(refusal), ((1,), byte))
                 self.assertEqual(stop_of(refusal_of(capn.show, kind(data), form)), ((1,), byte))
         self.assertEqual(stop_of(refusal_of(capn.is_canonical_words, BARE)), ((1,), 24))
-        # The error is at the root pointer, or there is no root. For a far pointer, the place is the pointer and not its
-        # landing pad.
+        # The path of an error at the root pointer is empty. If the message has no root, the path is empty and there is
+        # no byte. For a far pointer, the place is that of the pointer, and not that of its landing pad.
         self.assertEqual(stop_of(refusal_of(capn.check, stream(bytes(4) + b"\1" + bytes(3)))), ((), 8))
         self.assertEqual(stop_of(refusal_of(capn.check, far(BARE))), ((1,), 48))
         self.assertEqual(stop_of(refusal_of(capn.check, far(b""))), ((), 16))
@@ -54,7 +54,8 @@ class Refusals(unittest.TestCase):
         self.assertEqual(stop_of(capn.Refusal("Range at 0:3, paid 0, visits 0", "Range", (0, 3))), (None, None))
 
     def test_of_a_stream(self):
-        # The offset counts from the start of its message. The offset of the message itself is given next to it.
+        # The byte of an error counts from the start of its message. The refusal also has the offset of the message in
+        # the stream.
         good = stream(bytes(8))
         for packed in False, True:
             data = good * 2 + REFUSED + good

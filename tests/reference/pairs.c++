@@ -94,7 +94,8 @@ static void change(Value& value, bool isRow) {
 // Builds values in a message, each time in another layout.
 class Layout {
 public:
-  // How many sizes and gaps differ from those that the values need. With 0, none differs.
+  // How many more words and pointers a struct may have than its value needs. With 0, no struct has more, no gap is
+  // made, and no object is moved.
   explicit Layout(unsigned spare) : spare(spare) {}
 
   void put(const Value& value, capnp::AnyPointer::Builder to) {
@@ -116,7 +117,7 @@ public:
       case ROWS: putRows(value, to); break;
     }
     if (spare > 0 && below(6) == 0) {
-      // Takes the object out, makes another object behind it, and puts it back.
+      // Takes the object out of its pointer, makes another object behind it, and puts the first object back.
       auto moved = to.disown();
       waste(to);
       to.adopt(kj::mv(moved));

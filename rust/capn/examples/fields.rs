@@ -228,7 +228,7 @@ fn kind(value: &Value) -> u64 {
     at.expect("a kind of capn.h") as u64
 }
 
-/// How many numbers of a list are read, and how many pointers or structs.
+/// At most this many numbers of a list are read, and at most this many of its pointers or structs.
 const MOST_NUMBERS: usize = 1000;
 const MOST_ROWS: usize = 20;
 

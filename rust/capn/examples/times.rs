@@ -6,7 +6,7 @@ use capn::{Form, Index, Limits};
 use capn_sys::{capn_entry, capn_figures, capn_limits, capn_report};
 use std::time::Instant;
 
-/// The calls of `capn.h`, as a program in C makes them.
+/// Makes the calls of `capn.h`, as a program in C does.
 mod direct {
     use super::*;
 

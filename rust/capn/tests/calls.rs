@@ -93,7 +93,7 @@ fn canonical_bytes_with_scratch() {
             Err(ScratchError::NoRoom(16))
         );
     }
-    // A table of 65 segments. Only the first segment has a word.
+    // The message has 65 segments. Only the first segment has a word.
     let mut many = words(&[64 | 1 << 32]);
     many.resize(4 + 4 * 65 + 8, 0);
     assert_eq!(into(&many, Form::Stream, 63, 8), no_scratch(64));
@@ -296,7 +296,8 @@ fn a_stream_in_memory() {
     assert_eq!(capn::messages(&[], USUAL).next(), None);
 }
 
-/// Reads at most this many bytes at a time. Before each read, a read fails with an error that passes.
+/// Reads at most `most` bytes at a time. Before each such read, two reads fail: one would block, and one is
+/// interrupted.
 struct Slow<'a> {
     rest: &'a [u8],
     most: usize,
@@ -404,7 +405,7 @@ fn segments_at_any_address() {
 
 #[test]
 fn fields_with_defaults_and_newer_lists() {
-    // A word, a text, and structs of a newer writer in place of numbers.
+    // The root has a word, a text, and a list of structs. A newer writer wrote these structs in place of numbers.
     let message = framed(&[
         1 << 32 | 3 << 48,
         5 ^ 7,
@@ -455,7 +456,7 @@ fn fields_with_defaults_and_newer_lists() {
     assert_eq!(format!("{:?}", index.root()), "struct 8 bytes, 3 slots");
 }
 
-/// Each kind of list in place of each other kind.
+/// Reads each kind of list as each other kind.
 #[test]
 fn lists_in_place_of_others() {
     let list = |width: u64| words(&[1 | width << 32 | 2 << 35, 0, 0]);
@@ -544,7 +545,8 @@ fn structs_without_words_are_zeros_and_nulls() {
         // Only a list of bits can be read as bits.
         assert!(list.as_list::<bool>().is_err());
     }
-    // Structs with only a pointer to a text. No number is read out of a pointer.
+    // The structs of this list have only a pointer, which refers to a text. The bits of a pointer are never read as a
+    // number.
     let texts = words(&[
         1 | 0x17 << 32,
         8 | 1 << 48,

@@ -27,7 +27,7 @@ thread_local! {
 }
 
 fn count(of: impl Fn(&mut Counts)) {
-    // A thread that ends has no counts any more.
+    // A thread that is ending has no counts any more, so nothing is counted for it.
     let _ = COUNTS.try_with(|cell| {
         let mut counts = cell.get();
         of(&mut counts);
@@ -113,7 +113,8 @@ fn many_answers_are_appended_in_linear_time() {
     }
 }
 
-/// Each message is a little longer than the message before it.
+/// The same buffer takes messages that are each a little longer than the message before. It must not grow at each
+/// message.
 #[test]
 fn a_buffer_that_is_cleared_grows_by_a_factor() {
     let messages: Vec<_> = (1..2000).map(|count| bytes(8 * count)).collect();
@@ -176,7 +177,8 @@ fn no_room_is_asked_for_beyond_the_limits() {
     assert!(counts.largest <= MOST, "refusal_way: {}", counts.largest);
 }
 
-/// A table that announces much, and packed bytes that unpack to much.
+/// A reader allocates for the bytes that have come. It must not allocate for the words that a segment table announces,
+/// or for all that packed bytes would unpack to.
 #[test]
 fn streams_ask_for_what_has_come() {
     let announced = words(&[8_000_000 << 32, 0]);
@@ -205,7 +207,7 @@ fn an_answer_keeps_no_more_than_twice_its_length() {
     let segments: [&[u8]; 1] = [&null[8..]];
     let canonical = capn::segments::canonical(&segments, &USUAL).unwrap();
     assert!(canonical.capacity() <= 256, "{}", canonical.capacity());
-    // Unpacking a message makes a buffer no larger than the message can unpack to.
+    // The buffer for an unpacked message is no larger than what the packed bytes can unpack to.
     let unpacked = capn::unpack(&capn::pack(&null[..64]).unwrap(), 8).unwrap();
     assert!(unpacked.capacity() <= 128, "{}", unpacked.capacity());
 }

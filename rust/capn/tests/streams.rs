@@ -23,7 +23,8 @@ fn hostile() -> Vec<u8> {
     framed(&[0x1_0000_ffff_fffc])
 }
 
-/// A valid message, a rejected message, a valid message, a rejected message, and an invalid table.
+/// Returns a stream and the errors of its messages. The stream has a valid message, a rejected message, a valid
+/// message, a rejected message, and an invalid table.
 fn mixed() -> (Vec<u8>, Vec<StreamError>) {
     let damaged = words(&[0xffff_ffff]);
     let stream = [one(), hostile(), one(), hostile(), damaged, one()].concat();
@@ -152,7 +153,7 @@ impl Source {
     }
 }
 
-/// Reads at most this many bytes at a time. Between the reads, other reads fail with errors that pass.
+/// Reads at most `most` bytes at a time. Of five reads, the first would block and the third is interrupted.
 struct Slow<'a> {
     rest: &'a [u8],
     most: usize,

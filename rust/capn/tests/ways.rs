@@ -25,7 +25,8 @@ const OUTSIDE: [u64; 4] = [
 #[test]
 fn whether_a_message_is_canonical_in_its_form() {
     let stream = framed(&LOOSE);
-    // Read as bare words, the table and the segment are a struct of data. The call of C has no form.
+    // If the stream is read as bare words, its segment table is a pointer to a struct whose data is the segment. The
+    // call of C takes no form, and reads bare words.
     assert_eq!(capn::is_canonical_words(&stream, &USUAL), Ok(true));
     assert_eq!(
         capn::is_canonical_message(&stream, Form::Stream, &USUAL),
@@ -56,7 +57,8 @@ fn whether_a_message_is_canonical_in_its_form() {
         Ok(true)
     );
 
-    // The same value in two segments, a truncated message, and a capability, which has no canonical bytes.
+    // Tests a message of two segments that has the same value, a truncated message, and a message with a capability,
+    // which has no canonical bytes.
     let two = words(&[1 | 2 << 32, 0, 1 << 32, 5]);
     assert_eq!(
         capn::is_canonical_message(&two, Form::Stream, &USUAL),
@@ -157,7 +159,7 @@ fn departures_by_their_kinds() {
     assert_eq!(of(&[0, 5]), Some(Departure::After { byte: 8, word: 5 }));
     let two = capn::departure(&words(&[1 | 1 << 32, 0, 0]), Form::Stream, &USUAL).unwrap();
     assert_eq!(two, Some(Departure::Segments { count: 2 }));
-    // Bits after the last byte of a list, and a tag of structs that are longer than they have to be.
+    // Bits are set after the last byte of a list.
     let last = of(&[1 | 2 << 32 | 1 << 35, 0x4141]).unwrap();
     assert!(
         matches!(
@@ -176,7 +178,8 @@ fn departures_by_their_kinds() {
     assert_eq!(refused.kind(), Some(Kind::Range));
 }
 
-/// Reads a number at a bit where no schema has one, and tests the text for bytes that can't be packed.
+/// Reads a number at a bit that isn't a multiple of its width, where no schema has a number. Also tests the text of the
+/// error for bytes that can't be packed.
 #[test]
 fn what_the_pages_say_of_small_things() {
     let message = words(&[1 << 32, 0x0100_0007]);
