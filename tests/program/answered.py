@@ -1,7 +1,7 @@
 #!/usr/bin/env python3
-"""Computes the results that the program has to have for a command line. It calls the function `run_COMMAND` of `model`
-or `explained`, with the options of the command as parameters. It finds the options, and those that take a number, in
-the texts of help.
+"""Computes the output and the exit status that the program must have for a command line. It calls the function
+`run_COMMAND` of the module `model` or `explained`, with the options of the command as arguments. It takes the options
+from the help texts, which also show the options that take a number.
 
     tests/program/answered.py COMMAND [OPTION..] < INPUT
 
@@ -17,7 +17,7 @@ import help_texts
 import model
 
 HELP = help_texts.helps()
-# The words that stand for a number where a text of help names the value of an option.
+# In a help text, these words name the value of an option if the value is a number.
 NUMBERS = ("N", "K")
 
 
@@ -27,13 +27,14 @@ def options_of(command):
 
 
 def call_of(command):
-    """Returns the function of a command."""
+    """Returns the Python function that computes the output of a command."""
     name = f"run_{command}"
     return getattr(model, name) if hasattr(model, name) else getattr(explained, name)
 
 
 def answer(line, data):
-    """Returns the output for an input, the line on standard error, and the exit status."""
+    """Returns three results of a command line for an input: the output, the line on standard error, and the exit
+    status."""
     command, *rest = line
     takes, options = {option.name: option.takes for option in options_of(command)}, {}
     while rest:
@@ -46,8 +47,8 @@ def answer(line, data):
 
 
 def values_of(option):
-    """Returns values to try for an option. They are the words that it allows, two small numbers, or the example of
-    help. An option without a value gets no word."""
+    """Returns values to try for an option. The values are the words that the option allows, or two small numbers, or
+    the example in the help text. An option that takes no value gets an empty list."""
     if not option.takes:
         return [[]]
     words = ["1", "2"] if option.takes in NUMBERS else option.words or re.findall(r", such as `([^`]+)`", option.said)
@@ -56,7 +57,7 @@ def values_of(option):
 
 
 def lines():
-    """Yields the command line of each command without options, and with each one of its options."""
+    """Yields command lines for each command: one without options, and one for each of its options."""
     for command in HELP:
         if command not in ("", "make"):
             yield [command]

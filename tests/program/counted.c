@@ -1,5 +1,5 @@
-/* Counts the growths of a program that it is loaded into. The file COUNTED has two numbers of 8 bytes: how many growths
-   there were, and the most bytes that one asked for. */
+/* A library to preload, which counts the calls of `malloc` and `realloc` in a program. It writes two numbers of 8 bytes
+   to the file that the variable COUNTED names: the number of calls, and the largest size that a call asked for. */
 #define _GNU_SOURCE
 #include <dlfcn.h>
 #include <fcntl.h>

@@ -1,5 +1,5 @@
-"""Computes the output of `explain`. It is a second implementation, written in Python from docs/DIAGNOSTICS.md, and
-belongs to `model`."""
+"""Computes the output of the command `explain`. It is a second implementation of `explain`, written in Python from
+docs/DIAGNOSTICS.md. The module `model` has the other commands."""
 
 import model
 
@@ -7,7 +7,7 @@ KINDS = ["voids", "bits", "bytes", "u16", "u32", "u64", "pointers"]
 
 
 def decoded(word):
-    """Returns the description of a word, read as a pointer."""
+    """Returns a text that describes a word as a pointer."""
     if word == 0:
         return "null"
     kind, offset = word & 3, (word & 0xFFFFFFFF) >> 2
@@ -25,7 +25,7 @@ def decoded(word):
 
 
 def tag_of(word):
-    """Returns the description of a word, read as the tag of a list of structs."""
+    """Returns a text that describes a word as the tag word of a list of structs."""
     if word & 3:
         return decoded(word)
     return f"tag of {(word & 0xFFFFFFFF) >> 2} structs of {word >> 32 & 0xFFFF} words and {word >> 48} slots"
@@ -36,14 +36,14 @@ def dotted(way):
 
 
 class Explanation(model.Walk):
-    """A traversal that knows the path to the pointer that it visits, and the object that holds this pointer."""
+    """A traversal of a message. It keeps the path to the current pointer, and the object that holds this pointer."""
 
     def __init__(self, segments, limits, begin, table):
         self.begin, self.table, self.limits = begin, table, limits
         self.way, self.holder, self.refused, self.asked = [], None, None, None
         self.capability_way = None
-        # The object that holds the next pointers: its path, its first pointer, and its kind. For a struct in a list, it
-        # also has the list.
+        # `within` describes the object that holds the next pointers: its path, its first pointer, and a text. `shape`
+        # has the path to an object and, for a list of structs, the first word of its structs.
         self.within = self.shape = None
         try:
             super().__init__(segments, **limits)
@@ -51,7 +51,7 @@ class Explanation(model.Walk):
             self.refused = str(refused)
 
     def byte(self, segment, at):
-        """Returns the byte at which a word of a segment begins."""
+        """Returns the offset in bytes of a word of a segment."""
         return self.begin + 8 * (self.table + sum(map(self.words, range(segment))) + at)
 
     def slot(self, segment, at, depth, is_root=False):
@@ -98,7 +98,7 @@ class Explanation(model.Walk):
         return f"content: words {begin} to {end} of segment {segment}, which has {self.words(segment)}\n"
 
     def slot_lines(self):
-        """Returns the lines about the pointer at which the traversal stopped with an error."""
+        """Returns the lines of `explain` about the pointer at which the traversal failed."""
         fault = self.refused.split(" ")[0]
         segment, at = self.visited
         word = self.word(segment, at)
@@ -144,19 +144,20 @@ class Explanation(model.Walk):
 
 
 def segments_line(segments):
-    """Returns the line about the segments of a message."""
+    """Returns the line of `explain` about the segments of a message."""
     return sizes_line([len(segment) // 8 for segment in segments])
 
 
 def sizes_line(sizes):
-    """Returns the line about segments of these sizes. The line of several segments has the sizes of the first eight."""
+    """Returns the line of `explain` about segments with the given sizes. For several segments, the line has the sizes
+    of the first eight."""
     first = ", ".join(map(str, sizes[:8])) + (", .." if len(sizes) > 8 else "")
     return f"segments: {len(sizes)} of {sum(sizes)} words{': ' + first if len(sizes) > 1 else ''}\n"
 
 
 class Owner(Explanation):
-    """A traversal of canonical bytes that finds which object a word belongs to, as the path to that object's
-    pointer."""
+    """A traversal of canonical bytes that finds the object to which a word belongs. The object is named by the path to
+    its pointer."""
 
     def __init__(self, segment, word, walk):
         self.sought, self.owner = word, None
@@ -181,7 +182,8 @@ class Owner(Explanation):
 
 
 def difference(walk, segment, canonical):
-    """Returns the first word of a segment that differs from the canonical bytes, and what that word is part of."""
+    """Returns a text about the first word of a segment that differs from the canonical bytes. The text says which
+    object the word is part of."""
     at = next(i for i in range(0, len(segment), 8) if segment[i:i + 8] != canonical[i:i + 8])
     word, other = segment[at:at + 8], canonical[at:at + 8]
     line = f"at byte {walk.byte(0, at // 8)}: {word.hex()}"
@@ -196,7 +198,7 @@ def difference(walk, segment, canonical):
 
 
 def accepted_lines(walk, segments):
-    """Returns the lines for an accepted message, without the lines about its place."""
+    """Returns the lines of `explain` for a valid message, without the lines about its number, offset and segments."""
     out = [f"accepted: paid {walk.paid} visits {walk.visits} depth {walk.height}\n"]
     canonical = model.canonical(walk.value) if walk.capability is None else None
     if len(segments) == 1 and canonical == segments[0]:
@@ -214,8 +216,8 @@ def accepted_lines(walk, segments):
 
 
 def came(data, form, offset):
-    """Returns what could be read of a message that was rejected before its traversal. The result has the unpacked bytes
-    from the message's offset on, and the bytes of a truncated group."""
+    """Returns the bytes of a message that was rejected before its traversal: the unpacked bytes from the offset of the
+    message on, and the bytes of a truncated group."""
     if form != "packed":
         return data[offset:], b""
     words, group = model.unpacked(data)
@@ -223,8 +225,8 @@ def came(data, form, offset):
 
 
 def table_lines(rest):
-    """Returns the line about the segments if the table is complete and announces no more segments than are allowed.
-    Returns no line otherwise."""
+    """Returns the line about the segments, if the segment table is complete and doesn't announce too many segments.
+    Otherwise returns no line."""
     count = model.number(rest, 0, 4) + 1
     if count > model.MOST_SEGMENTS or len(rest) < 4 + 4 * count:
         return []
@@ -232,15 +234,17 @@ def table_lines(rest):
 
 
 def least(rest):
-    """Returns the size in bytes that the segment table gives a message. Missing bytes of the table count as zeros."""
+    """Returns the size in bytes that a message has according to its segment table. If the table is truncated, its
+    missing bytes count as zeros."""
     count = model.number(rest, 0, 4) + 1
     sizes = [model.number(rest[:4 + 4 * count], at, 4) for at in range(4, len(rest), 4)]
     return 8 * (1 + count // 2) + 8 * sum(sizes)
 
 
 def needed(group):
-    """Returns the least number of bytes of a group. A group has its tag and the bytes that the tag announces. After two
-    of the tags it also has a count. After one of these two tags, as many words follow as the count says."""
+    """Returns the least number of bytes that a group of packed bytes can have. A group is its tag and the bytes that
+    the tag announces. After the tags 0 and 255, a group also has a count. After the tag 255, the group also has as many
+    words as the count says."""
     size = 1 + bin(group[0]).count("1")
     if group[0] not in (0, 255):
         return size
@@ -248,8 +252,8 @@ def needed(group):
 
 
 def fault_lines(fault, message_words, rest, group):
-    """Returns the lines for a message that was rejected before its traversal. `rest` and `group` are what could be read
-    of it."""
+    """Returns the lines of `explain` for a message that was rejected before its traversal. `rest` has the bytes of the
+    message, and `group` has the bytes of a truncated group."""
     text, index, offset = fault
     out = [f"message: {index} at {offset}\n"]
     if not text.startswith("bare: "):
@@ -271,8 +275,8 @@ def fault_lines(fault, message_words, rest, group):
 
 
 def walked(message, form, limits):
-    """Returns the traversal of a message, and the lines that explain its error. The line about its place is left out. A
-    message without an error has no such lines."""
+    """Returns the traversal of a message, and the lines that describe the segments and the error. A valid message has
+    no lines about an error."""
     offset, _frame, segments = message
     walk = Explanation(segments, limits, offset, 0 if form == "bare" else len(segments) // 2 + 1)
     lines = [segments_line(segments)]
@@ -283,9 +287,9 @@ def walked(message, form, limits):
 
 
 def explain(data, form="stream", message_words=8388608, wanted=None, **limits):
-    """Returns the output of `explain`, the line on standard error, and the exit status. It explains the message with
-    the number `wanted`. If `wanted` is None, it explains the first rejected message. The limits are those of the
-    traversal."""
+    """Returns the output of `explain`, the line on standard error, and the exit status. The output is about the message
+    with the number `wanted`. If `wanted` is None, the output is about the first rejected message. `limits` are the
+    limits of the traversal."""
     found, fault = model.messages(data, form, message_words)
     for index, message in enumerate(found, 1):
         if wanted not in (None, index):
@@ -304,8 +308,8 @@ def explain(data, form="stream", message_words=8388608, wanted=None, **limits):
 
 
 def explain_refused(data, form="stream", message_words=8388608, **limits):
-    """Returns the output, the line on standard error, and the exit status for an explanation of every rejected message.
-    An empty line follows each explanation."""
+    """Returns the output of `explain --keep-going`, the line on standard error, and the exit status. The output
+    explains every rejected message, and has an empty line after each explanation."""
     found, fault = model.messages(data, form, message_words)
     out, passed = [], []
     for index, message in enumerate(found, 1):

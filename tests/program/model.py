@@ -1,4 +1,4 @@
-"""A second implementation of docs/FORMAT.md and docs/LIMITS.md in Python, which the program is compared with.
+"""A second implementation of docs/FORMAT.md and docs/LIMITS.md, in Python. Tests compare the program with it.
 
 It shares nothing with the program: a value is a tuple, a traversal is a recursion, and canonical bytes are one list. It
 is slow, and it isn't proved. `run_COMMAND` does the work of a command, and has the options of the command as
@@ -18,19 +18,19 @@ WIDTH_BITS = [0, 1, 8, 16, 32, 64]
 
 
 class Refused(Exception):
-    """An error, with its text."""
+    """An error of the input. Its text is the text that the program prints."""
 
 
 def number(data, at, size):
     return int.from_bytes(data[at:at + size], "little")
 
 
-# Segment tables and packed bytes.
+# This section reads and writes segment tables and packed bytes.
 
 
 def first_frame(data, at, most):
-    """Returns the segments of the message at an offset, and the offset after the message. Returns None if the stream
-    ends there."""
+    """Returns the segments of the message at an offset of a stream, and the offset after the message. Returns None if
+    the stream ends at the first offset."""
     if at == len(data):
         return None
     if len(data) - at < 4:
@@ -55,8 +55,8 @@ def first_frame(data, at, most):
 
 
 def unpacked(data, most=None):
-    """Returns the words in the complete groups of packed bytes, and the offset of a truncated group, or None. It is an
-    error if a group exceeds a maximum of words."""
+    """Returns the words that the complete groups of packed bytes unpack to. Also returns the offset of a truncated
+    group, or None. Raises an error if a group exceeds the maximum of words."""
     out, at = bytearray(), 0
     while at < len(data):
         tag, begun = data[at], at
@@ -88,7 +88,8 @@ def unpacked(data, most=None):
 
 
 def packed(data):
-    """Returns the packed bytes of whole words. Each run of words in them is as long as it can be."""
+    """Packs whole words, and returns the packed bytes. Each run of zero words or of unpacked words is as long as
+    possible."""
     words, text, at = [data[begin:begin + 8] for begin in range(0, len(data), 8)], bytearray(), 0
     while at < len(words):
         word = words[at]
@@ -109,13 +110,14 @@ def packed(data):
 # Traversals.
 
 
-# The limits that are numbers. Each has the share of random runs that set it, its least value and its greatest value.
+# The limits that are numbers. Each has the share of random test runs that set it, its least value and its greatest
+# value.
 LOW_LIMITS = {"budget": (0.3, 0, 30), "depth": (0.2, 1, 5), "message_words": (0.2, 1, 12)}
 
 
 class Walk:
-    """One traversal of a message. It finds the message's value, its cost, the number of pointers followed, and its
-    height."""
+    """One traversal of a message. It finds the value of the message, its cost, the number of pointers followed, and the
+    nesting depth."""
 
     def __init__(self, segments, budget=8388608, depth=64, tariff="strict"):
         self.segments, self.budget, self.most_depth = segments, budget, depth
@@ -301,7 +303,8 @@ def canonical(value):
 
 
 def quoted(items):
-    """Returns the text that is written between quotes for a list of bytes. Returns None if the list isn't a text."""
+    """Returns what `show --text` prints between quotes for a list of bytes. Returns None if `show --text` prints the
+    list in hexadecimal."""
     if not items or not all(0x20 <= byte <= 0x7E for byte in items[:-1]):
         return None
     if items[-1] and not 0x20 <= items[-1] <= 0x7E:
@@ -311,7 +314,8 @@ def quoted(items):
 
 
 def shown(value, level=0, with_texts=False):
-    """Returns the dump of a value, as `show` writes it. With texts, returns the dump that `show --text` writes."""
+    """Returns the dump of a value, as `show` prints it. If `with_texts` is true, returns the dump that `show --text`
+    prints."""
     kind, pad = value[0], "  " * level
     if kind == "null":
         return f"{pad}null\n"
@@ -337,8 +341,8 @@ def shown(value, level=0, with_texts=False):
 
 
 class Marked:
-    """The lines of an accepted message with their marks: offsets, paths, or both. `begin` is the byte at which the
-    words of the first segment begin. The class reads the message again, pointer by pointer."""
+    """The lines that `show` prints with offsets, paths, or both, for an accepted message. `begin` is the offset of the
+    first segment. The class reads the message again, pointer by pointer."""
 
     def __init__(self, segments, begin, offsets, ways, with_texts=False):
         self.walk = Walk(segments, 1 << 60, 1 << 30, "plain")
@@ -351,7 +355,7 @@ class Marked:
         return offset + (f"{name}\t" if self.ways else "") + "  " * level + text + "\n"
 
     def leads(self, segment, at):
-        """Returns where a pointer's object begins, and the word that describes the object."""
+        """Returns the place at which a pointer's object begins, and the word that describes the object."""
         word = self.walk.word(segment, at)
         if word & 3 != 2:
             return segment, start(word, at), word
@@ -401,8 +405,8 @@ class Marked:
         return text
 
     def below(self, there, step):
-        """Returns the part with this number below an object or below a struct in a list. Returns None if no such part
-        exists."""
+        """Returns the part with the number `step` directly below an object, or below a struct in a list. Returns None
+        if the object has no such part."""
         segment, at, row = there
         if row is None:
             word = self.walk.word(segment, at)
@@ -419,7 +423,8 @@ class Marked:
         return (segment, at + row[0] + step, None) if step < row[1] else None
 
     def part(self, way):
-        """Returns the lines of the part at a path from the root, or the line `none`."""
+        """Returns the lines of the part at a path from the root. Returns the line `none` if the message has no such
+        part."""
         there = (0, 0, None)
         for step in way:
             there = there and self.below(there, step)
@@ -439,7 +444,7 @@ class Marked:
 
 
 def text_of(items):
-    """Returns a list of bytes as a JSON text, or None if it isn't a text. A text is UTF-8 without control characters,
+    """Returns a list of bytes as a JSON text. Returns None unless the bytes are UTF-8 without control characters,
     followed by a zero byte."""
     if not items or items[-1] != 0:
         return None
@@ -451,8 +456,8 @@ def text_of(items):
 
 
 def plain_of(value, with_texts):
-    """Returns a value in the form that the module `json` writes. With texts, a list of bytes that is a text becomes a
-    text."""
+    """Returns a value as an object that the module `json` can write. If `with_texts` is true, each list of bytes that
+    is a text becomes a string."""
     kind = value[0]
     if kind == "null":
         return None
@@ -472,7 +477,7 @@ def plain_of(value, with_texts):
 
 
 def stands(value, way):
-    """Returns the part of a value at a path of numbers, or None."""
+    """Returns the part of a value at a path of numbers. Returns None if the value has no such part."""
     for step in way:
         if value[0] not in ("struct", "pointers", "rows"):
             return None
@@ -484,8 +489,8 @@ def stands(value, way):
 
 
 def styled(value, style):
-    """Returns the output for a part in a style: plain, text, json or both. The part may be None. The line that ends the
-    output is included."""
+    """Returns the output of `show` for a part of a message, in the style plain, text, json or both. `value` is None if
+    the message doesn't have the part. The output contains its last line."""
     if style in ("json", "both"):
         if value is None:
             return "\n"
@@ -493,13 +498,13 @@ def styled(value, style):
     return ("none\n" if value is None else shown(value, 0, style == "text")) + "end\n"
 
 
-# Commands that write a result for each message of a stream.
+# This section has the commands that write a result for each message of a stream.
 
 
 def each(data, text_of, form="stream", message_words=8388608, one=False, **limits):
-    """Returns the output for messages, the line on standard error, and the exit status. The output ends before the
-    first rejected message. With `one`, the input has to be exactly one message. `text_of` makes the output for a
-    message from its traversal, its segments, its offset and its frame. The limits are those of the traversal."""
+    """Returns the output for the messages of a stream, the line on standard error, and the exit status. The output
+    stops before the first rejected message. If `one` is true, the input has to be exactly one message. The function
+    `text_of` makes the output for one message. `limits` are the limits of the traversal."""
     if one:
         try:
             segments = only_message(data, form, message_words)
@@ -544,23 +549,23 @@ def run_hash(data, **options):
 
 
 def without_capability(walk):
-    """Returns the traversal of a message. Raises an error if the message has a capability."""
+    """Returns the given traversal of a message. Raises an error if the message has a capability."""
     if walk.capability is not None:
         raise Refused(f"capability {walk.capability}")
     return walk
 
 
 def is_own(walk, segments):
-    """Returns whether an accepted message is a single segment that equals its canonical bytes."""
+    """Returns whether a valid message is a single segment that equals its canonical bytes."""
     return walk.capability is None and len(segments) == 1 and canonical(walk.value) == segments[0]
 
 
-# Commands that take a stream of any length.
+# This section has the commands that take a stream of any length.
 
 
 def messages(data, form, most):
-    """Returns each message with its offset, its bytes, and the words up to the end of its frame. Also returns the error
-    that ends the stream, with the message's number and offset, or None."""
+    """Returns the messages of an input: each with its offset, its bytes with the segment table, and its segments. Also
+    returns the error that ends the stream, or None."""
     if form == "bare":
         if len(data) % 8:
             return [], (f"bare: NotWhole({len(data)})", 1, 0)
@@ -587,15 +592,15 @@ def messages(data, form, most):
 
 
 def line_of(fault):
-    """Returns the line on standard error for an error. It is made from the error's text, the number of the message and
-    its offset."""
+    """Returns the line that the program prints on standard error for an error. The line has the number and the offset
+    of the message."""
     text, index, offset = fault
     return f"capn: message {index} at {offset}: {text}\n"
 
 
 def passed_line(passed, count):
-    """Returns the line on standard error for skipped messages, from their numbers and offsets and the number of all
-    messages. Returns an empty text if no message was skipped."""
+    """Returns the line on standard error about rejected messages that were skipped. Returns an empty text if no message
+    was skipped."""
     if not passed:
         return ""
     index, offset = passed[0]
@@ -607,7 +612,7 @@ def digest(value):
 
 
 def listed(head, walk, segments, with_digest):
-    """Returns the line of `list` for an accepted message, after its first columns."""
+    """Returns the line of `list` for a valid message. `head` has the first columns of the line."""
     is_free = walk.capability is None
     end = f" sha256 {digest(walk.value) if is_free else '-'}" if with_digest else ""
     own = "yes" if is_own(walk, segments) else "no"
@@ -616,8 +621,8 @@ def listed(head, walk, segments, with_digest):
 
 
 def needed(greatest, found, tariff):
-    """Returns the lines of `limits`: the number of messages, and the greatest value of each number with the number of
-    its message."""
+    """Returns the lines of `limits`: the number of messages, and the greatest value of each statistic with the number
+    of its message."""
     most = 2**28
     words, paid, deep = (greatest[name][0] for name in greatest)
     lines = [f"messages {found}"]
@@ -630,9 +635,9 @@ def needed(greatest, found, tariff):
 
 def run(task, data, form="stream", message_words=8388608, keep_going=False, with_digest=False, count=False,
         only_canonical=False, **limits):
-    """Returns the output of a command that takes a stream of any length, its output on standard error, and its exit
-    status. The task is list, limits, canonical, uniq or filter. `with_digest` belongs to list, `count` to uniq, and
-    `only_canonical` to filter. The limits are those of the traversal."""
+    """Returns the output of a command that takes a stream of any length, its standard error, and its exit status.
+    `task` is the command: list, limits, canonical, uniq or filter. `with_digest` is an option of list, `count` of uniq,
+    and `only_canonical` of filter. `limits` are the limits of the traversal."""
     found, fault = messages(data, form, message_words)
     out, passed, greatest = [], [], {"message-words": (0, 0), "budget": (0, 0), "depth": (0, 0)}
     kept = set()
@@ -693,7 +698,8 @@ def run_filter(data, canonical=False, **options):
 
 
 def apart(first, other):
-    """Returns the first lines in which the dumps of two canonical messages differ. Each line follows its path."""
+    """Returns the first two lines that differ in the dumps of two canonical messages. Each line begins with its
+    path."""
     texts = [Marked([it], 0, False, True).part(()).splitlines() + ["\tend"] for it in (first, other)]
     return next(both for both in zip(*texts) if both[0] != both[1])
 
@@ -724,8 +730,8 @@ def run_canonical(data, framed=False, keep_going=False, **options):
 
 
 def pick(data, form="stream", message_words=8388608, first=1, last=2**64 - 1):
-    """Returns the output of `pick` for the messages from one number to another, the line on standard error, and its
-    exit status."""
+    """Returns the output of `pick` for the messages with the numbers `first` to `last`, the line on standard error, and
+    the exit status."""
     if last < first:
         return b"", "", 0
     found, fault = messages(data, form, message_words)
@@ -736,7 +742,8 @@ def pick(data, form="stream", message_words=8388608, first=1, last=2**64 - 1):
 
 
 def pick_only(data, ranges, form="stream", message_words=8388608):
-    """Returns the output of `pick --only`, the line on standard error, and the exit status. The ranges ascend."""
+    """Returns the output of `pick --only`, the line on standard error, and the exit status. The ranges are in ascending
+    order."""
     found, fault = messages(data, form, message_words)
     out = b"".join(frame for _, frame, _ in (one for first, last in ranges for one in found[first - 1:last]))
     if fault is None or len(found) >= ranges[-1][1]:
@@ -752,11 +759,11 @@ def run_pick(data, to=2**64 - 1, only=None, **options):
     return pick_only(data, [(int(low), int(high or low)) for low, _, high in ranges], **options)
 
 
-# Commands that read their whole input first.
+# This section has the commands that read their whole input first.
 
 
 def only_message(data, form, message_words):
-    """Returns the segments of an input that has to be one message."""
+    """Returns the segments of the only message of an input. Raises an error unless the input is exactly one message."""
     if form == "bare":
         if len(data) % 8:
             raise Refused(f"bare: NotWhole({len(data)})")
@@ -775,8 +782,8 @@ def only_message(data, form, message_words):
 
 
 def canonical_of_one(data, form="stream", message_words=8388608, **limits):
-    """Returns the output of `canonical` for one message, the line on standard error, and the exit status. The limits
-    are those of the traversal."""
+    """Returns the output of `canonical` for one message, the line on standard error, and the exit status. `limits` are
+    the limits of the traversal."""
     try:
         walk = Walk(only_message(data, form, message_words), **limits)
         return canonical(without_capability(walk).value), "", 0
@@ -799,16 +806,16 @@ def run_unpack(data, message_words=8388608, streaming=False):
     return (words, "", 0) if cut_at is None else (b"", f"capn: packed: Cut at {cut_at}\n", 1)
 
 
-# Packing and unpacking in chunks.
+# This section packs and unpacks in chunks.
 
 
 def pack_streaming(data):
-    """Returns the output of `pack --streaming`, the line on standard error, and its exit status."""
+    """Returns the output of `pack --streaming`, the line on standard error, and the exit status."""
     text = packed(data[:len(data) // 8 * 8])
     return (text, f"capn: NotWhole({len(data)})\n", 1) if len(data) % 8 else (text, "", 0)
 
 
 def unpack_streaming(data):
-    """Returns the output of `unpack --streaming`, the line on standard error, and its exit status."""
+    """Returns the output of `unpack --streaming`, the line on standard error, and the exit status."""
     words, cut_at = unpacked(data)
     return (words, "", 0) if cut_at is None else (words, f"capn: packed: Cut at {cut_at}\n", 1)

@@ -1,5 +1,6 @@
-/* Fails allocations of the program that loads it: those with the numbers from REFUSE_FROM to REFUSE_TO. For each it
- * writes a byte to the descriptor REFUSE_TOLD. */
+/* A library to preload, which makes allocations of a program fail. The variables REFUSE_FROM and REFUSE_TO have the
+ * numbers of the first and the last allocation that fail. For each failed allocation, the library writes a byte to the
+ * file descriptor in REFUSE_TOLD. */
 #define _GNU_SOURCE
 #include <dlfcn.h>
 #include <stdlib.h>

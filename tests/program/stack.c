@@ -1,5 +1,5 @@
-/* Uses 1 MiB of the program's stack before the program begins. The stack then has the memory that the program needs,
- * even if no other memory is left. */
+/* A library to preload, which uses 1 MiB of a program's stack before the program begins. The stack then has enough
+ * memory, even if the heap takes all other memory later. */
 #include <string.h>
 
 __attribute__((constructor, noinline)) static void take_stack(void)
