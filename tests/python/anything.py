@@ -1,4 +1,4 @@
-"""Reads each pointer of each message as every kind of object, as the programs of the other languages do.
+"""Reads each pointer of each message as every kind of object. The test programs in C, C++, Rust and Go do the same.
 
     anything.py any     reads a stream. Prints how many messages are accepted, how many pointers they have, and how
                         many readings succeed in total. A pointer is read as a struct, as a
@@ -16,7 +16,7 @@ KINDS = ["null", "struct", "void", "bits", "bytes", "u16", "u32", "u64", "pointe
 
 
 def folded(numbers):
-    """Returns a hash of some numbers, in hexadecimal."""
+    """Returns a hash of a sequence of numbers, in hexadecimal."""
     total = START
     for number in numbers:
         total = (total ^ number & MASK) * PRIME & MASK
@@ -24,7 +24,7 @@ def folded(numbers):
 
 
 def of_struct(body):
-    """Yields the numbers that are read from a struct."""
+    """Yields the values of the fields that this test reads from a struct."""
     for i in range(0, 256, 5):
         yield int(body.bool(i, (i + 1) % 2 != 0))
     for width in 8, 16, 32, 64:
@@ -39,14 +39,15 @@ def of_struct(body):
 
 
 def of_list(items, most, of_each):
-    """Yields the number of elements, and the numbers of the first elements."""
+    """Yields the number of elements of a list, and then the numbers that are read from its first elements."""
     yield len(items)
     for i in range(min(len(items), most)):
         yield from of_each(items[i])
 
 
 def text_of(found):
-    """Returns the bytes of a text. C returns these bytes even if they aren't UTF-8."""
+    """Returns the bytes of a text, without its last zero byte. Bytes that aren't UTF-8 are returned, too, as the C
+    library does."""
     if not isinstance(found, (capn.Null, capn.Bytes)):
         raise capn.Mismatch(f"there is no text, but {found!r}")
     try:
@@ -63,16 +64,16 @@ def data_of(found):
 
 
 def elements_of(found):
-    """Returns the elements of a list whose elements have no size. Raises a Mismatch unless the object is null, a list
-    of structs, or a list of elements without size."""
+    """Reads an object as a list of elements without size (`Void`), and returns its elements. Raises a Mismatch unless
+    the object is null, a list of structs, or such a list."""
     if found.kind not in ("null", "void", "rows"):
         raise capn.Mismatch(f"there are no such elements, but {found!r}")
     return found.rows()
 
 
 def things(found):
-    """Yields a pair for each kind of object that a pointer is read as. The pair has the call, and the function that
-    turns its result into numbers."""
+    """Yields a pair for each kind of object that a pointer is read as: a call that reads the object, and a function
+    that turns the result of the call into numbers."""
     yield found.struct, of_struct
     for bytes_of in text_of, data_of:
         yield lambda: bytes_of(found), lambda data: (len(data), *data)
@@ -84,8 +85,8 @@ def things(found):
 
 
 def parts(found, shown):
-    """Yields the words of a line. There is a word for each kind of object: its numbers as `shown` prints them, or `-`
-    if the pointer can't be read as this kind."""
+    """Yields the words of an output line, one word for each kind of object. The word is what `shown` makes of the
+    numbers, or `-` if the pointer can't be read as this kind."""
     for call, numbers in things(found):
         try:
             answer = call()
@@ -96,7 +97,7 @@ def parts(found, shown):
 
 
 def pointers(found):
-    """Yields the object of each pointer, in the order of the index."""
+    """Yields the object of each pointer, in the order in which an index lists the pointers."""
     left = [found]
     while left:
         found = left.pop()
@@ -112,7 +113,8 @@ def pointers(found):
 
 
 def any_of(stream):
-    """Returns a text with three numbers: the messages, their pointers, and the readings of pointers that succeed."""
+    """Counts the messages of a stream, their pointers, and the reads that succeed. Returns these three numbers as a
+    text."""
     messages = slots = read = 0
     for frame in capn.messages(stream, read_ahead=True):
         try:
@@ -127,7 +129,7 @@ def any_of(stream):
 
 
 def lines(stream):
-    """Yields the lines of messages. Before each message stands its length."""
+    """Yields the output lines for all messages of a stream. In the stream, each message comes after its length."""
     while length := stream.read(4):
         try:
             root = capn.read(stream.read(int.from_bytes(length, "little"))).root

@@ -1,9 +1,9 @@
-"""Values, and the layouts in which a message may hold a value."""
+"""Random values, and functions that encode a value as a message in different layouts."""
 from tried import some
 
-# A value is one of these: None; ("struct", words, slots); ("list", code, count, bytes) for a list of numbers;
-# ("pointers", values); or ("rows", words, slots, [(words, slots)]). In a value of the last kind, each row has as many
-# words and slots as the list says.
+# A value is None, or a tuple whose first item is its kind: ("struct", words, slots); ("list", code, count, bytes) for a
+# list of numbers; ("pointers", values); or ("rows", words, slots, [(words, slots)]) for a list of structs. Here slots
+# are pointers. The structs of a list all have the same number of words and of pointers, which the list gives.
 NUMBERS = some.sampled_from([0, 0, 1, 1 << 63]) | some.integers(0, (1 << 64) - 1)
 BITS = {0: 0, 1: 1, 2: 8, 3: 16, 4: 32, 5: 64}
 
@@ -30,13 +30,13 @@ def rows(draw, values):
 
 
 def values():
-    """Returns a random value that a pointer may refer to."""
+    """Returns a strategy of Hypothesis for the values that a pointer may refer to."""
     pointers = some.builds(lambda values: ("pointers", values), some.lists(some.deferred(values), max_size=3))
     return some.recursive(some.none() | lists(), lambda below: structs(below) | rows(below) | pointers, max_leaves=12)
 
 
 def short(words, least=0):
-    """Returns a list without the zero words or null pointers at its end."""
+    """Returns a list without the zero words, or the null pointers, at its end."""
     end = len(words)
     while end > least and not words[end - 1]:
         end -= 1
@@ -44,7 +44,7 @@ def short(words, least=0):
 
 
 def trimmed(value):
-    """Returns an equal value without the words and pointers that mean nothing."""
+    """Returns an equal value without the zero words and null pointers that canonical bytes leave out."""
     if value is None or value[0] == "list":
         return value
     if value[0] == "pointers":
@@ -58,12 +58,12 @@ def trimmed(value):
 
 
 def bare(value, backwards=False):
-    """Returns the words of a segment that holds a value. The objects are in preorder. With `backwards`, the objects of
-    the last pointer of each object come first."""
+    """Encodes a value, and returns the words of the segment. The objects are in preorder. If `backwards` is true, the
+    objects of the last pointer of each object come first."""
     segment = [0]
 
     def put(at, value):
-        """Writes the pointer at a word, and writes its object after all words that exist."""
+        """Writes a pointer into a word of the segment, and appends the pointer's object to the segment."""
         if value is None:
             return
         start, inner = len(segment), []
@@ -97,20 +97,21 @@ def bare(value, backwards=False):
 
 
 def stream(*segments):
-    """Returns segments with their segment table before them."""
+    """Returns a message: the segment table and then the segments."""
     sizes = [len(segments) - 1, *(len(one) // 8 for one in segments)]
     table = b"".join(size.to_bytes(4, "little") for size in sizes)
     return table + bytes(len(table) % 8) + b"".join(segments)
 
 
 def far(segment):
-    """Returns a message whose root is a far pointer to the root of a segment."""
+    """Returns a message whose root is a far pointer to the root pointer of the given segment."""
     return stream((2 | 1 << 32).to_bytes(8, "little"), segment)
 
 
 @some.composite
 def hostile(draw):
-    """Returns bytes that may not be a message. They are random, or are a message with some bytes changed or cut off."""
+    """Draws bytes that may or may not be a valid message. They are either random bytes, or a message in which some
+    bytes are changed or cut off."""
     if draw(some.booleans()):
         return draw(some.binary(max_size=200))
     written = bare(draw(values()), draw(some.booleans()))

@@ -1,5 +1,6 @@
-"""Prints the shortest of many times of each call of the package, in nanoseconds. `capn.check` of a message of 32 bytes
-is slower than an empty Python call. The first three lines say how much slower, for three types of its argument."""
+"""Measures each call of the Python package many times, and prints the shortest time in nanoseconds. The first three
+lines are about `capn.check` for a message of 32 bytes. They say how much slower this call is than an empty Python call,
+for three types of argument."""
 import fcntl
 import io
 import os
@@ -10,24 +11,24 @@ import capn
 
 MESSAGE = bytes.fromhex("0000000003000000" "0000000002000000" "0500000000000000" "0000000000000000")
 CALLS, RUNS = 2000, 500
-# A message, which is a struct with a number, a text of 8 bytes, and a list of 12 structs. Each of these has a word and
-# a text.
+# The number of structs in the list that the function `longer` writes.
 ROWS = 12
 
 
 def longer():
-    """Returns the bytes of that message."""
+    """Returns a message whose root is a struct with a number, a text of 8 bytes, and a list of ROWS structs. Each
+    struct in the list has a word and a text."""
     segment = [1 << 32 | 2 << 48, 7, 1 << 2 | 1 | 2 << 32 | 8 << 35, 1 << 2 | 1 | 7 << 32 | 2 * ROWS << 35]
     segment += [int.from_bytes(b"abcdefg\0", "little"), ROWS << 2 | 1 << 32 | 1 << 48]
     for row in range(ROWS):
-        # The texts come after all structs of the list.
+        # The texts of the structs come after all structs of the list.
         segment += [row, 2 * (ROWS - row) - 2 + row << 2 | 1 | 2 << 32 | 8 << 35]
     segment += [int.from_bytes(b"written\0", "little")] * ROWS
     return b"".join(word.to_bytes(8, "little") for word in [len(segment) << 32, *segment])
 
 
 def empty(data, form="stream", limits=None):
-    """Takes the arguments of `check`, and does nothing."""
+    """Takes the same arguments as `capn.check`, and does nothing."""
 
 
 def shortest(call, data, calls=CALLS, runs=RUNS):
@@ -61,12 +62,12 @@ def way(data):
 
 
 def cut(message):
-    """Returns a message of one segment without its last word. The segment table still counts this word."""
+    """Returns a message of one segment that lacks its last word. The segment table is changed to fit."""
     return message[:4] + (len(message) // 8 - 2).to_bytes(4, "little") + message[8:-8]
 
 
 def streamed(**options):
-    """Reads a stream of many messages again and again. Returns the shortest time per message."""
+    """Reads a stream of 2,000 messages several times. Returns the shortest time per message."""
     message, count = longer(), 2000
     data = capn.pack(message) * count if options.get("packed") else message * count
     file = io.BufferedReader(io.BytesIO(data))
@@ -79,14 +80,14 @@ def streamed(**options):
 
 
 def of_words(count):
-    """Returns a message with a segment of this many words. The message is a struct. Its words are small numbers and
-    texts, in turn."""
+    """Returns a message with a segment of `count` words. Its root is a struct, whose words are small numbers and texts
+    in turn."""
     segment = [count - 1 << 32, *((at, int.from_bytes(b"abcdefg\0", "little"))[at % 2] for at in range(count - 1))]
     return b"".join(word.to_bytes(8, "little") for word in [count << 32, *segment])
 
 
 def piped(message, buffering, packed, runs=600):
-    """Reads a pipe with 100 KB of messages again and again. Returns the shortest time per message, in nanoseconds."""
+    """Reads about 100 KB of messages from a pipe, many times. Returns the shortest time per message, in nanoseconds."""
     count, least = 100_000 // len(message), float("inf")
     data = (capn.pack(message) if packed else message) * count
     for _ in range(runs):

@@ -1,4 +1,5 @@
-"""Wrong arguments are rejected before any call of the library. Also tests what a refusal and limits contain."""
+"""Tests that wrong arguments are rejected before the library is called. Also tests the attributes of `capn.Refusal` and
+`capn.Limits`."""
 import array
 import copy
 import mmap

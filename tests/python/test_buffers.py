@@ -1,5 +1,5 @@
-"""Tests that an exception doesn't keep the caller's buffer, how much memory a call uses, and in which order a call
-examines its arguments."""
+"""Tests how calls use the caller's buffers. An exception keeps no buffer. Also tests how much memory a call uses, and
+in which order a call examines its arguments."""
 import ctypes
 import gc
 import mmap
@@ -25,10 +25,10 @@ GIB = 1 << 30
 
 
 class AfterAnException(unittest.TestCase):
-    """Neither an exception nor its traceback keeps the caller's buffer."""
+    """Tests that neither an exception nor its traceback keeps the caller's buffer."""
 
     def calls(self, data):
-        """Returns calls that read bytes in place and raise an exception."""
+        """Yields calls that read the caller's bytes in place and raise an exception."""
         tight = capn.Limits(budget=1)
         yield lambda: capn.pack(data[:-1] if type(data) is memoryview else data, in_place=True)
         yield lambda: capn.unpack(data, 1, in_place=True)
@@ -58,8 +58,8 @@ class AfterAnException(unittest.TestCase):
             yield lambda call=call: call([data], 5, in_place=True)
 
     def test_a_bytearray_can_be_changed(self):
-        # No call accepts the first of these messages within a budget of one word. The length of the second isn't a
-        # multiple of a word, and the root of the third leads outside of the message.
+        # Each of the three messages is rejected. The first costs more than a traversal limit of one word. The length of
+        # the second isn't a whole number of words. The root of the third leads outside of the message.
         for bytes_of in SMALL, SMALL + b"x", stream(bytes.fromhex("0000000001000000")):
             data = bytearray(bytes_of)
             raised = 0
@@ -98,8 +98,8 @@ class AfterAnException(unittest.TestCase):
 
 class Pipes(unittest.TestCase):
     def test_an_exception_before_a_pipe_is_begun_closes_nothing(self):
-        # The new memory of a pipe may contain any numbers before the pipe is begun. Here it contains the descriptors of
-        # other files, which must stay open.
+        # The memory for the two descriptors of a pipe may contain any numbers before the pipe is opened. Here it
+        # contains the descriptors of two other files, which must stay open.
         class Interrupted(Exception):
             pass
 
@@ -153,7 +153,7 @@ class Memory(unittest.TestCase):
 
 
 def long():
-    """Makes calls on 5 GiB with 8 GiB of address space."""
+    """Makes calls on a file of 5 GiB, while the process may use 8 GiB of address space."""
     import resource
 
     with tempfile.TemporaryFile() as file:
@@ -171,8 +171,7 @@ def long():
 
 
 def shown(data, form, limits):
-    """Returns a dump, for which the bytes are read in place. Without the patch, capn.show copies the bytes, because the
-    length of the dump isn't known yet."""
+    """Calls `capn.show` such that it reads the bytes in place. Without the patch, `capn.show` copies the bytes."""
     with unittest.mock.patch.object(capn._show, "_taken", lambda data, form, limits, _: capn._calls._taken(
             data, form, limits, True)):
         return capn.show(data, form, limits)
@@ -187,7 +186,7 @@ def refused(call, *arguments, **options):
 
 
 class Shapes(unittest.TestCase):
-    """Buffers with gaps, in another order, or without bytes."""
+    """Tests buffers with gaps between their bytes, buffers in another memory order, and buffers without bytes."""
 
     def test_no_bytes_in_place(self):
         for empty in (ctypes.c_uint32 * 0)(), bytearray(), memoryview(b""), mmapped():
@@ -217,12 +216,12 @@ class Shapes(unittest.TestCase):
 
 
 def mmapped():
-    """Returns an empty view of a mapped file."""
+    """Returns an empty memoryview of a mapped file."""
     return memoryview(mmap.mmap(-1, 8))[:0]
 
 
 class Segments(unittest.TestCase):
-    """The number of segments is checked before any segment is copied."""
+    """Tests that the number of segments is checked before any segment is copied."""
 
     def test_no_more_are_taken_than_say_so(self):
         taken = []

@@ -1,5 +1,5 @@
-"""Tests bytes that change while a call runs. The call copies them first, unless the caller promises that they don't
-change."""
+"""Tests calls on bytes that another thread changes during the call. A call copies the bytes first, unless the caller
+promises that they don't change."""
 import array
 import mmap
 import subprocess
@@ -10,16 +10,16 @@ import unittest
 import capn
 from messages import bare, stream
 
-# One thread moves pointers of a list far outside the message and back again, while another thread makes the calls. If
-# the calls read the bytes in place, the process crashes within seconds or gets wrong results. The arguments are the
-# number of seconds, and whether the calls read in place.
+# One thread makes calls on a message. Another thread changes pointers of the message, so that they lead far outside of
+# the message and back again. If the calls read the bytes in place, the process crashes within seconds or gets wrong
+# results. The two arguments are the number of seconds, and whether the calls read in place.
 RACE = """
 import sys, threading, time
 import capn
 stop, in_place = time.monotonic() + float(sys.argv[1]), sys.argv[2] == "in place"
 COUNT = 4096
 FAR = (1 << 28 | 1 | 5 << 32 | (1 << 20) << 35).to_bytes(8, "little")
-# A list of pointers, each to a list of one number.
+# A message with a list of pointers. Each pointer refers to a list of one number.
 data = bytearray(((1 + 2 * COUNT) << 32).to_bytes(8, "little") + (1 | 6 << 32 | COUNT << 35).to_bytes(8, "little"))
 data += ((COUNT - 1) << 2 | 1 | 5 << 32 | 1 << 35).to_bytes(8, "little") * COUNT + bytes(8 * COUNT)
 kept = bytes(data)
@@ -53,8 +53,8 @@ class Changing(unittest.TestCase):
         self.assertEqual((ran.returncode, ran.stdout), (0, "alive\n"), ran.stderr)
 
     def test_the_bytes_are_not_held_during_a_call(self):
-        # The message is a list of 16 MiB of null pointers. A call takes so long for it that another thread can change
-        # the size of the caller's bytes meanwhile.
+        # The message is a list of null pointers, with 16 MiB. A call on it takes so long that another thread can change
+        # the size of the caller's buffer during the call.
         count = (1 << 21) - 1
         data = bytearray(stream((1 | (6 | count << 3) << 32).to_bytes(8, "little") + bytes(8 * count)))
         for call in capn.check, capn.survey, capn.canonical, capn.digest, capn.read, capn.departure:

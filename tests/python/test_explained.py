@@ -1,5 +1,5 @@
-"""Tests the place of an error, and the first difference from the canonical form. Both are compared with a second
-implementation of the pages, with the stored answers of the program, and with the program itself, if it is built."""
+"""Tests the place that an error reports, and the first difference from the canonical form. Compares both with a second
+implementation in Python, with the stored results of the program, and with the program itself if it is built."""
 import dataclasses
 import random
 import re
@@ -24,30 +24,30 @@ NUMBERS = re.compile(r"[0-9]+")
 
 
 def numbers(way):
-    """Returns the numbers of a path that is written with dots."""
+    """Returns the numbers of a path, which is written with dots."""
     return () if way == "root" else tuple(map(int, way.split(".")))
 
 
 def said(out):
-    """Returns the lines of an explanation by their keys."""
+    """Returns the lines that `explain` prints as a dictionary. The key of a line is the text before its colon."""
     return dict(line.split(": ", 1) for line in out.decode().splitlines() if ": " in line)
 
 
 def explain(data, form="stream", limits=capn.Limits()):
-    """Returns the lines of the second implementation's explanation by their keys."""
+    """Returns the lines of `explain` that the Python model prints, as a dictionary."""
     return said(explained.explain(data, form, **dataclasses.asdict(limits))[0])
 
 
 def stop(told, before=0):
-    """Returns the path and the byte of the error in an explanation. `before` is the number of bytes before the
-    message."""
+    """Returns the path and the byte offset of the error that `explain` reports. `before` is the number of bytes before
+    the message."""
     if "way" in told:
         return numbers(told["way"]), int(NUMBERS.search(told["slot"])[0]) - before
     return (), None
 
 
 def refusal_of(call, *arguments, **options):
-    """Returns the error of a call, or None."""
+    """Returns the exception that a call raises if it rejects its message, or None."""
     try:
         call(*arguments, **options)
     except capn.Refusal as refusal:
@@ -60,21 +60,21 @@ def stop_of(refusal):
 
 
 def segments_of(source):
-    """Returns the words of a message. The message is random, or would be accepted except for one word, or is one list
-    of bytes."""
+    """Returns the words of a random message. Some of these messages are valid except for one word, and some are a
+    single list of bytes."""
     kind = source.random()
     if kind < 0.3:
         return archives.segments_of(source)
     if kind < 0.5:
         return generated.message(source)
     if kind < 0.6:
-        # Returns a list of bytes. In some cases, bits are set after its last byte.
+        # Returns a list of bytes. In some cases, bits are set in the last word after the last byte of the list.
         count = source.randint(1, 7)
         return [[1 | 2 << 32 | count << 35, source.getrandbits(8 * count + source.choice([0, 0, 8]))]]
     segments = archives.good(source)
     segment = source.choice([one for one in segments if one])
-    # Chooses the greatest of three random places. In most cases, the word there is one of the last words of the
-    # segment, which are deep in the message.
+    # Takes the greatest of three random indexes. The chosen word is then likely to be near the end of the segment, and
+    # so deep in the message.
     at = max(source.randrange(len(segment)) for _ in range(3))
     wrong = [3 | source.randrange(4) << 32, generated.pointer(source, len(segment), len(segments))]
     segment[at] = source.choice([*wrong, segment[at] ^ 1 << source.randrange(64)])
@@ -82,7 +82,7 @@ def segments_of(source):
 
 
 def input_of(source):
-    """Returns a message in a random form, and its segments. In most cases the message is complete."""
+    """Returns a random message in a random form, and its segments. Some of these messages are truncated."""
     segments = segments_of(source)
     form, data = source.choice(["stream", "stream", "packed", "bare"]), archives.framed(segments)
     if form == "bare":
@@ -94,7 +94,7 @@ def input_of(source):
 
 class AsExplained(unittest.TestCase):
     def compare(self, data, form, limits, told, found):
-        """Makes all calls on one message, and counts their results in `found`."""
+        """Makes all calls on one message, and counts the different results in the dictionary `found`."""
         if told.get("accepted"):
             departure = capn.departure(data, form, limits)
             self.assertEqual(told["canonical"], "yes" if departure is None else f"no: {departure}")
@@ -157,8 +157,8 @@ class AsExplained(unittest.TestCase):
                     self.assertEqual(stop_of(refusal), stop_of(refused))
                     ways.add(refusal.way)
                     if refused.name == "TooManyWords":
-                        # If a call gets the segments from an iterator, it takes no more segments than it needs to
-                        # exceed the limit. So it may report fewer words.
+                        # If the segments come from an iterator, a call takes no more segments than it needs in order to
+                        # exceed the limit. So the call may report fewer words.
                         self.assertEqual(of_iterator.name, refused.name)
                         self.assertTrue(limits.message_words < of_iterator.at <= refused.at)
                     else:
@@ -167,8 +167,8 @@ class AsExplained(unittest.TestCase):
         self.assertGreater(len(ways), 10)
 
     def test_long_tables(self):
-        # The root is in the first segment. The last segment has a landing pad and a struct. The only word in the
-        # pointer section of this struct isn't a pointer.
+        # The root is in the first segment. The last segment has a landing pad and a struct, whose only pointer is
+        # invalid.
         for count in 2, 3, 64, 65, 66, 4095, 4096:
             first = (2 | (count - 1) << 32).to_bytes(8, "little")
             last = struct.pack("<3Q", 1 << 48, 7 << 2 | 3, 0)
@@ -181,8 +181,8 @@ class AsExplained(unittest.TestCase):
             self.assertEqual(stop_of(refusal_of(capn.check_segments, [first, *between, last])), stop_of(refusal))
 
     def test_the_longest_way(self):
-        # The message has 256 nested lists of structs, which is as deep as the limit allows. The struct in the last list
-        # has a pointer to one more struct, which is too deep.
+        # The message has 256 nested lists of structs, which is the highest nesting limit that a caller may set. The
+        # struct in the last list has a pointer to one more struct, which is too deep.
         words = []
         for _ in range(256):
             words += [1 | 7 << 32 | 1 << 35, 1 << 2 | 1 << 48]
@@ -199,8 +199,7 @@ class AsExplained(unittest.TestCase):
         tried = 0
         for case, answer in stored():
             words = case.split()
-            # Leaves out runs with --keep-going. Such a run explains several messages, and explains each as a run
-            # without this option does.
+            # Leaves out test cases with --keep-going, which explain several messages.
             if words[0] != "archive" or words[2] != "explain" or "--keep-going" in words:
                 continue
             form, bounds, options, data = "stream", {}, words[3:-1], bytes.fromhex(words[-1].replace("-", ""))
@@ -211,8 +210,8 @@ class AsExplained(unittest.TestCase):
                     name, bound = limit_of(option, value)
                     bounds[name] = bound
             told = said(bytes.fromhex(answer.split(", ")[1].replace("-", "")))
-            # Only the program explains errors of a segment table, of packed bytes and of a length, and counts the
-            # messages.
+            # Leaves out output that only the program has: errors of a segment table, of packed bytes and of a length,
+            # and the number of messages.
             if "accepted" not in told and "way" not in told:
                 continue
             with self.subTest(case=case):

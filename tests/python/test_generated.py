@@ -1,4 +1,5 @@
-"""Ten thousand generated messages, most of them hostile. Each call returns what the library returns in C.
+"""Tests ten thousand generated messages, most of them hostile. Each call in Python has to return what the C library
+returns.
 
 The tests need a C compiler, and are skipped without one."""
 import os
@@ -20,7 +21,8 @@ TRIED = 10_000
 
 
 def calls():
-    """Makes lines for tests/c/vectors.c. For each message, there are one or more calls with a form and limits."""
+    """Yields input lines for the program tests/c/vectors.c. There are several lines for each message. Each line has a
+    call, a form, the limits and the message."""
     source = random.Random(65)
     for _ in range(TRIED):
         words = generated.message(source) if source.random() < 0.7 else archives.good(source)
@@ -58,7 +60,7 @@ class Generated(unittest.TestCase):
             try:
                 got = answer(line.split())
             except capn.Refusal as refusal:
-                # The program in C writes no form for the call that takes only packed bytes.
+                # For the call `unpack`, the C program prints an error without the prefix `packed: `.
                 got = str(refusal).removeprefix("packed: ") if line.startswith("unpack") else str(refusal)
             accepted += wanted.startswith("paid")
             with self.subTest(line=line):

@@ -1,5 +1,5 @@
-"""Tests streams with rejected messages. The messages after a rejected one are returned, and each message has its number
-and offset."""
+"""Tests the option `keep_going` on streams with rejected messages. The reader also returns the messages after a
+rejected one. Each message has its number and offset."""
 import asyncio
 import io
 import random
@@ -19,21 +19,21 @@ TIGHT = capn.Limits(budget=2)
 
 
 def told(found):
-    """Returns the bytes of a message, or its digest. For a refusal, returns its text, its number and its offset."""
+    """Returns a message or a digest unchanged. For a `Refusal`, returns its text, name, number and offset."""
     if isinstance(found, capn.Refusal):
         return str(found), found.name, found.number, found.offset
     return found
 
 
 def ways(data, packed):
-    """Yields the readers of a stream of these bytes with `keep_going`."""
+    """Yields functions that make a reader with `keep_going`, each over another kind of file with the given bytes."""
     for ahead in False, True:
         for file in data, io.BytesIO(data), io.BufferedReader(io.BytesIO(data), 16), Pieces(data, 7):
             yield lambda f=file, a=ahead: capn.messages(f, packed, read_ahead=a, keep_going=True)
 
 
 def awaited(data, packed, **options):
-    """Returns all results of an asynchronous reader, and the exception at the end."""
+    """Returns all results of an asynchronous reader, and the exception that ends it, or None."""
     async def run():
         reader, got = asyncio.StreamReader(), []
         reader.feed_data(data)
@@ -78,7 +78,7 @@ class KeepGoing(unittest.TestCase):
                      if isinstance(one, capn.Refusal)]
         self.assertEqual((refusal.number, refusal.offset, refusal.way, refusal.byte), (2, 32, (), 8))
         self.assertEqual((refusal.text, refusal.place), ("Range at 0:0, paid 0, visits 1", (0, 0)))
-        # The refusal has no traceback, so it keeps no part of the reader alive.
+        # The `Refusal` has no traceback, so it doesn't keep the reader alive.
         self.assertIsNone(refusal.__traceback__)
 
     def test_digests(self):
@@ -101,7 +101,7 @@ class KeepGoing(unittest.TestCase):
     def test_all_limits_count(self):
         self.assertEqual([told(one)[1] for one in capn.messages(SMALL * 2, limits=TIGHT, keep_going=True)],
                          ["OverBudget"] * 2)
-        # Without `keep_going` the reader checks no message.
+        # Without `keep_going`, the reader doesn't check the messages against the limits.
         self.assertEqual(list(capn.messages(WRONG + SMALL, limits=TIGHT)), [WRONG, SMALL])
 
     def test_a_damaged_table_ends_the_stream(self):
@@ -162,8 +162,8 @@ class KeepGoing(unittest.TestCase):
 
 
 class OneSignature(unittest.TestCase):
-    """Both kinds of readers take the same arguments. Positional arguments keep the meaning that they had before
-    `keep_going` was added."""
+    """Tests that the synchronous and the asynchronous readers take the same arguments. Positional arguments have the
+    same meaning as before `keep_going` was added."""
 
     def awaited(self, data, *arguments, **options):
         async def run():

@@ -1,4 +1,4 @@
-"""Other threads run during a call. A failed allocation is a MemoryError."""
+"""Tests that other threads run during a call, and that a failed allocation raises a MemoryError."""
 import re
 import subprocess
 import sys
@@ -10,22 +10,22 @@ import capn
 from messages import stream
 from tried import IS_SANITIZED
 
-# The words of a segment of 16 MiB, whose root is a list of null pointers.
+# A segment of 16 MiB, whose root is a list of null pointers.
 COUNT = (1 << 21) - 1
 SEGMENT = (1 | (6 | COUNT << 3) << 32).to_bytes(8, "little") + bytes(8 * COUNT)
 
-# PACKED has 2^14 groups of 256 zero words. Its 32 KiB unpack to 32 MiB.
+# PACKED has 2^14 groups of packed bytes. Each group unpacks to 256 zero words, so the 32 KiB unpack to 32 MiB.
 START = """
 import capn, resource
 PACKED = b"\\0\\xff" * (1 << 14)
 """
-# Limits the process to the memory that it uses now and 8 MiB more.
+# Limits the process to 8 MiB more memory than it uses now.
 LITTLE = """
 with open("/proc/self/statm") as file:
     used = int(file.read().split()[0]) * resource.getpagesize()
 resource.setrlimit(resource.RLIMIT_AS, (used + (8 << 20), resource.RLIM_INFINITY))
 """
-# Checks a packed message of 32 MiB, whose root is rejected, and keeps the refusal.
+# Checks a packed message that unpacks to 32 MiB and whose root is invalid. Keeps the exception.
 REFUSED = """
 import struct
 try:
@@ -33,7 +33,7 @@ try:
 except capn.Refusal as refused:
     refusal = refused
 """
-# Asks for the path while no memory is left, and asks again after the limit on memory is lifted.
+# Reads the path of the exception while no memory is left. Reads the path again after the memory limit is lifted.
 WAY = """
 try:
     refusal.way
@@ -43,14 +43,14 @@ resource.setrlimit(resource.RLIMIT_AS, (resource.RLIM_INFINITY, resource.RLIM_IN
 print(refusal.way, refusal.byte)
 """
 
-# The text for this error in docs/DIAGNOSTICS.md.
+# Reads the text that docs/DIAGNOSTICS.md has for the error out of memory.
 PAGE = Path(__file__).resolve().parents[2] / "docs" / "DIAGNOSTICS.md"
 TEXT = re.search(r"^\| `([^`]+)` \| (?:memory was refused|(?:an|the) allocation failed|out of memory)\b",
                  PAGE.read_text(encoding="utf-8"), re.M)[1]
 
 
 def child(*code):
-    """Returns the output of another process."""
+    """Runs Python code in another process, and returns its output."""
     ran = subprocess.run([sys.executable, "-B", "-c", "".join(code)], capture_output=True, check=False, text=True)
     return ran.stdout + ran.stderr.splitlines()[-1] if ran.stderr else ran.stdout
 
@@ -60,8 +60,8 @@ class Threads(unittest.TestCase):
         self.addCleanup(sys.setswitchinterval, sys.getswitchinterval())
 
     def test_another_thread_runs_during_each_call(self):
-        # Makes sure that no thread is forced to release the interpreter's lock. Then another thread runs only if a call
-        # releases the lock.
+        # The interpreter must not switch threads on its own. Then another thread runs only if a call releases the
+        # interpreter's lock.
         sys.setswitchinterval(1000)
         message = stream(SEGMENT)
         packed, look = capn.pack(message), self.looks(message[:-8] + b"\7" + bytes(7))
@@ -73,13 +73,14 @@ class Threads(unittest.TestCase):
                 self.assertTrue(any(self.runs_beside(call) for _ in range(50)))
 
     def looks(self, message):
-        """Returns a function that finds the path to the pointer at which a message is rejected."""
+        """Takes a message that is rejected. Returns the function that searches the message for the path of the
+        error."""
         with self.assertRaises(capn.Refusal) as caught:
             capn.check(message)
         return caught.exception._look
 
     def runs_beside(self, call):
-        """Returns whether this thread runs before a call in another thread ends."""
+        """Makes a call in another thread. Returns whether this thread runs before the call ends."""
         started, ended = threading.Event(), []
 
         def run():
@@ -133,7 +134,8 @@ class Memory(unittest.TestCase):
         self.assertRegex(child(START, LITTLE, "capn.departure(PACKED, 'packed')"), "^MemoryError")
 
     def test_there_is_none_for_a_way(self):
-        # The first search for the path fails for lack of memory. A second search, with enough memory, finds the path.
+        # The first search for the path of the error is out of memory. A second search, with enough memory, finds the
+        # path.
         self.assertEqual(child(START, REFUSED, LITTLE, WAY), f"MemoryError: capn: {TEXT}\n() 8\n")
 
     def test_there_is_enough(self):

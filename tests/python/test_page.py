@@ -1,4 +1,4 @@
-"""Each program of docs/PYTHON.md runs alone, and does what the page says."""
+"""Tests that each Python program in docs/PYTHON.md runs alone, and does what the page says."""
 import re
 import socket
 import subprocess
@@ -14,45 +14,47 @@ TOP = Path(__file__).resolve().parents[2]
 PAGE = TOP / "docs" / "PYTHON.md"
 README = TOP / "python" / "README.md"
 MESSAGE = bytes.fromhex("0000000003000000" "0000000002000000" "0500000000000000" "0000000000000000")
-# A pointer to more words than the message has.
+# A message whose root struct has more words than the message.
 WRONG = bytes.fromhex("0000000001000000" "0000000001000000")
-# A struct with a capability, whose index is 2.
+# A message with a struct whose only pointer is a capability with the index 2.
 CAPABILITY = bytes.fromhex("0000000002000000" "0000000000000100" "0300000002000000")
-# Two children at pointer 1. The first child has the name "ab".
+# A message whose root struct has a list of two structs as its pointer 1. The first of these two has the name "ab".
 CHILDREN = bytes.fromhex("0000000007000000" "0000000000000200" "0000000000000000" "0100000017000000" "0800000000000100"
                          "050000001a000000" "0000000000000000" "6162000000000000")
 TEXT = bytes.fromhex("0000000004000000" "0000000001000100" "0500000000000000" "0100000022000000" "6162630000000000")
 
 
 def children(words):
-    """Returns a message whose pointer 1 has this value, followed by the words that this pointer refers to."""
+    """Returns a message whose root struct has two pointers. `words` has the second pointer in hexadecimal, followed by
+    the words that it refers to."""
     segment = bytes.fromhex("0000000000000200" "0000000000000000" + words)
     return bytes(4) + (len(segment) // 8).to_bytes(4, "little") + segment
 
 
 def blocks(page, language):
-    """Returns the blocks of code of a page in a language."""
+    """Returns the code blocks of a page that are in a given language."""
     return re.findall(rf"^```{language}\n(.*?)^```$", page.read_text(), re.M | re.S)
 
 
 def programs():
-    """Returns the programs of the page and the program of the package's own page. Each runs alone."""
+    """Returns the Python programs of docs/PYTHON.md and of python/README.md. Each program runs alone."""
     return blocks(PAGE, "python") + blocks(README, "python")
 
 
 def program(named):
-    """Returns the only program of the page that contains a text."""
+    """Returns the Python program of docs/PYTHON.md that contains the given text. Fails unless exactly one program
+    contains the text."""
     [found] = [block for block in blocks(PAGE, "python") if named in block]
     return found
 
 
 def framed(words):
-    """Returns a message of this many words. The first word is a pointer to a struct, which is the second word."""
+    """Returns a message with a segment of `words` words. The root is a struct of one word."""
     return bytes(4) + words.to_bytes(4, "little") + (1 << 32).to_bytes(8, "little") + bytes(8 * words - 8)
 
 
 def deep(levels):
-    """Returns this many nested structs."""
+    """Returns a segment with `levels` nested structs."""
     first = (levels << 32).to_bytes(8, "little")
     return first + (1 << 48).to_bytes(8, "little") * (levels - 1) + bytes(8)
 
@@ -62,7 +64,7 @@ class Page(unittest.TestCase):
         with tempfile.TemporaryDirectory() as folder:
             (Path(folder) / "message").write_bytes(message)
             (Path(folder) / "messages").write_bytes(message)
-            # Makes each deprecation warning an error.
+            # The options of Python turn each deprecation warning into an error.
             ran = subprocess.run([sys.executable, "-B", "-W", "error::DeprecationWarning", "-c", f"{code}\n{more}"],
                                  cwd=folder, capture_output=True, check=False, text=True)
         return ran.returncode, ran.stdout + ran.stderr
@@ -79,8 +81,8 @@ class Page(unittest.TestCase):
         self.assertEqual(self.run_on(MESSAGE[:-8], first), (1, "rejected: frame: Cut\n"))
         self.assertEqual(self.run_on(MESSAGE * 2, first), (1, "rejected: trailing bytes at 32\n"))
         self.assertEqual(self.run_on(b"", first), (1, "rejected: frame: Empty\n"))
-        # With its segment table, this message has 1 MiB, which is as long as the program accepts. A longer message is
-        # rejected.
+        # With its segment table, this message has 1 MiB, the most that the program of the page accepts. The program
+        # rejects longer messages.
         most = framed((1 << 17) - 1)
         self.assertEqual(self.run_on(most, first), (0, f"{capn.digest(most).hex()}\n"))
         for longer in most + b"x", framed(1 << 17), framed(1 << 18), bytes((1 << 20) + 1):
@@ -97,7 +99,7 @@ class Page(unittest.TestCase):
         for message, wrote in (
             (MESSAGE, "reading it costs 3 words and follows 1 pointers\nTrue\n"),
             (MESSAGE[:-8], "rejected: frame: Cut\nFalse\n"),
-            # The default limits accept this message, and the limits of the page reject it.
+            # The default limits accept this message. The limits in docs/PYTHON.md reject it.
             (deep(41), "rejected: TooDeep at 0:32, paid 64, visits 33\nFalse\n"),
         ):
             asked = f"print(is_within_limits({message!r}))"
@@ -105,21 +107,20 @@ class Page(unittest.TestCase):
 
     def test_read(self):
         read = program("root.uint(64, 0, default=7)")
-        # A message has the number XOR 7, since 7 is the field's default.
+        # The default of the field is 7. So the message stores the field's value XOR 7.
         self.assertEqual(self.run_on(TEXT, read), (0, "2 abc\n"))
         self.assertEqual(self.run_on(MESSAGE, read), (0, "2 nobody\n"))
         self.assertEqual(self.run_on(bytes(4) + b"\1" + bytes(11), read), (0, "7 nobody\n"))
         self.assertEqual(self.run_on(CHILDREN, read), (0, "7 nobody\nab\nnobody\n"))
-        # In messages of an older writer, the children are texts or numbers. Each child is read as a struct, and the
-        # text or the number is its only field.
+        # An older writer may have written the children as texts or as numbers. Each child is then read as a struct with
+        # one field, which is the text or the number.
         self.assertEqual(self.run_on(children("0100000016000000" "0500000012000000" "0000000000000000"
                                               "6100000000000000"), read), (0, "7 nobody\na\nnobody\n"))
         for numbers in "0100000010000000", "0100000012000000", "0100000013000000", "0100000014000000":
             self.assertEqual(self.run_on(children(numbers + "0500000000000000"), read),
                              (0, "7 nobody\nnobody\nnobody\n"))
-        # Reads objects as other kinds than theirs. A list of bits isn't a list of structs. Three bytes aren't a text if
-        # the last byte isn't zero. A list of bytes isn't a struct, and a struct isn't a list. The bytes of a text may
-        # not be UTF-8.
+        # These messages have errors: a text without its last zero byte, a text that isn't UTF-8, and objects of another
+        # kind than the program expects. Others have bytes after the message, or are too deep.
         for message, why in (
             (TEXT.replace(b"\x22", b"\x1a"), "the last byte of a text is zero"),
             (TEXT.replace(b"abc", b"\xffbc"), "'utf-8' codec can't decode byte 0xff"),
@@ -134,8 +135,8 @@ class Page(unittest.TestCase):
             self.assertRegex(wrote, f"(?:^|\n)rejected: {why}")
 
     def test_describe(self):
-        # Shows that a zero word at the end of a struct isn't canonical, and that a list of more bytes than the message
-        # has is rejected.
+        # The program prints that a struct with a zero word at its end isn't canonical. It rejects a list that is longer
+        # than the message.
         for message, expected in (
             (TEXT, "canonical"),
             (MESSAGE, "not canonical: at byte 8: 0000000002000000 (struct of 2 words and 0 slots, offset 0), canonical"
@@ -154,7 +155,7 @@ class Page(unittest.TestCase):
         self.assertEqual(self.run_on(b"", stream), (0, ""))
         self.assertEqual(self.run_on(MESSAGE + MESSAGE[:-8], stream),
                          (1, f"{figures}\nrejected: message 2 at 32: frame: Cut\n"))
-        # The call in the loop reports an error without the number of the message.
+        # The error comes from the call `capn.survey` in the loop. So it doesn't have the number of the message.
         self.assertEqual(self.run_on(MESSAGE + WRONG, stream),
                          (1, f"{figures}\nrejected: Range at 0:0, paid 0, visits 1\n"))
 
@@ -182,7 +183,8 @@ class Page(unittest.TestCase):
         exec(code, found)
         for sent, expected in (
             (capn.pack(MESSAGE) * 3, 3), (b"", 0),
-            # 64 KiB of such packed zeros unpack to more messages than one call returns.
+            # The packed zeros after the first message are messages without words. 64 KiB of such zeros would unpack to
+            # more messages than one call returns.
             (capn.pack(MESSAGE) + b"\0\xff" * 4, "message 2 at 32: "),
             (capn.pack(MESSAGE * 2)[:-1], "message 2 at 32: packed: Cut at "),
         ):

@@ -1,5 +1,5 @@
-"""The calls return the results and the errors of the program. They read messages of the reference implementation as the
-program does.
+"""Tests that the calls return the same results and errors as the program, and that both read the messages of the
+reference implementation in the same way.
 
 The program is the one that CAPN names, or the one that `make program` builds. Without a program, all tests are skipped.
 """
@@ -26,7 +26,7 @@ settings.register_profile("program", deadline=None, max_examples=200, derandomiz
 
 
 def script(name):
-    """Returns a program of tests/reference as a module."""
+    """Returns a program of the folder tests/reference as a module."""
     spec = spec_from_loader(name, SourceFileLoader(name, str(REFERENCE / name)))
     module = module_from_spec(spec)
     spec.loader.exec_module(module)
@@ -34,13 +34,13 @@ def script(name):
 
 
 def program(*words, data):
-    """Returns the output of the program, or the text of its error."""
+    """Returns the output of the program `capn`, or the text of its error."""
     ran = subprocess.run([PROGRAM, *words], input=data, capture_output=True, check=False)
     return ran.stdout if ran.returncode == 0 else ran.stderr.decode()
 
 
 def called(call, *arguments):
-    """Returns the output of a call, or the text of its error."""
+    """Returns the result of a call, or the text of its error."""
     try:
         return call(*arguments)
     except capn.Refusal as refusal:
@@ -80,7 +80,7 @@ class Program(unittest.TestCase):
 
 @unittest.skipUnless(PROGRAM, "there is no program")
 class OfTheComparisons(unittest.TestCase):
-    """The messages for which the program is compared with the reference implementation."""
+    """Tests the messages for which other tests compare the program with the reference implementation."""
 
     def test_a_thousand_messages(self):
         generated, source = script("generated"), random.Random(46)

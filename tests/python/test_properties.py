@@ -1,4 +1,4 @@
-"""Tests properties that hold for every value and for any bytes. The values and bytes are random."""
+"""Tests properties that hold for every value and for any bytes. Hypothesis draws the values and the bytes."""
 import hashlib
 import unittest
 
@@ -19,7 +19,7 @@ class OfValues(unittest.TestCase):
         for segment in bare(value), bare(value, backwards=True):
             self.assertEqual(capn.is_canonical_words(segment), segment == canonical)
             self.assertEqual(capn.canonical(segment, "bare"), canonical)
-            # A far pointer doesn't lead to a null pointer.
+            # If the value is null, no far pointer is tried: the landing pad of a far pointer must not be null.
             for message in [stream(segment), far(segment)] if value else [stream(segment)]:
                 self.assertEqual(capn.canonical(message), canonical)
                 self.assertEqual(capn.canonical(capn.pack(message), form="packed"), canonical)

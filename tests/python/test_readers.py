@@ -1,4 +1,4 @@
-"""Tests streams over files whose `read` returns wrong results, and streams that arrive in many chunks."""
+"""Tests readers over files whose `read` returns wrong results, and readers of streams that arrive in many chunks."""
 import asyncio
 import random
 import time
@@ -11,7 +11,7 @@ SMALL = bytes.fromhex("0000000003000000" "0000000002000000" "0500000000000000" "
 
 
 class Answering:
-    """A file that returns the given results in order, and then no bytes."""
+    """A file whose `read` returns the given results in order, and then no bytes."""
 
     def __init__(self, *answers):
         self.answers = list(answers)
@@ -21,8 +21,8 @@ class Answering:
 
 
 def ways(begun, wrong):
-    """Yields the readers of a stream over a file that returns these results. If `begun` is set, the beginning of a
-    message comes first."""
+    """Yields readers over a file whose `read` returns `wrong`. If `begun` is true, the first bytes of a message come
+    before `wrong`."""
     for packed in False, True:
         sent = capn.pack(SMALL) if packed else SMALL
         for ahead in False, True:
@@ -96,8 +96,8 @@ class Growth(unittest.TestCase):
         for packed in False, True:
             for ahead in False, True:
                 short, long = seconds(1 << 20, packed, ahead), seconds(1 << 23, packed, ahead)
-                # Eight times the bytes take about eight times as long. With quadratic work they would take sixty-four
-                # times as long.
+                # Eight times as many bytes take about eight times as long. If the work were quadratic, they would take
+                # sixty-four times as long.
                 self.assertLess(long, 24 * short + 0.5)
 
 

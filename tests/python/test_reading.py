@@ -1,5 +1,5 @@
-"""Tests messages that are read in place, streams that are read in chunks, and summaries. All are compared with the
-model of tests/program."""
+"""Tests that messages are read in place, streams in chunks, and summaries correctly. Compares the results with the
+Python model in tests/program."""
 import io
 import random
 import struct
@@ -20,7 +20,7 @@ model, generated = archives.model, archives.GENERATED
 
 
 def tree(found):
-    """Returns the object of a pointer, in the form of the model."""
+    """Converts the object of a pointer to the form that the Python model uses."""
     kind = found.kind
     if kind == "null":
         return ("null",)
@@ -40,7 +40,7 @@ def tree(found):
 
 
 def walked(segments, **limits):
-    """Returns the model's traversal of a message, or the text of its error."""
+    """Returns the traversal of a message by the Python model, or the text of the model's error."""
     try:
         return model.Walk(segments, **limits)
     except model.Refused as refused:
@@ -48,7 +48,7 @@ def walked(segments, **limits):
 
 
 class Pieces(io.RawIOBase):
-    """A file that returns at most `most` bytes for each read."""
+    """A file whose `read` returns at most `most` bytes for each call."""
 
     def __init__(self, data, most):
         super().__init__()

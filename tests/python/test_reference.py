@@ -1,4 +1,4 @@
-"""Compares every entry of an index with the object that the reference implementation's dynamic reader finds in the same
+"""Compares every index entry with the object that the reference implementation's dynamic reader finds in the same
 message.
 
 The tests need the reference implementation's library and a C++ compiler, and are skipped without them."""
@@ -21,7 +21,8 @@ TRIED = 10_000
 
 
 def lines_of(found):
-    """Yields a line for a pointer and a line for each pointer below it, as `tests/reference/places.c++` writes them."""
+    """Yields a line for the object of a pointer, and a line for each object below it. The lines have the format of
+    `tests/reference/places.c++`."""
     kind, entry = found.kind, found._entry
     offset, first, second, below = -1, 0, 0, []
     if kind == "struct":
@@ -50,8 +51,8 @@ def ours(message):
 
 
 def places(folder):
-    """Compiles the program that uses the reference implementation's reader, and returns it. Returns None if the
-    reference implementation isn't installed."""
+    """Compiles tests/reference/places.c++, which reads messages with the reference implementation. Returns the path of
+    the program. Returns None if the reference implementation isn't installed."""
     program = os.path.join(folder, "places")
     made = [COMPILER, "-std=c++17", "-O1", "-o", program, str(REFERENCE / "places.c++"), "-lcapnp", "-lkj"]
     return program if COMPILER and subprocess.run(made, capture_output=True, check=False).returncode == 0 else None
@@ -77,8 +78,8 @@ class Entries(unittest.TestCase):
             if who == "both":
                 with self.subTest(message=message.hex()):
                     self.assertEqual(mine, their)
-        # docs/DIFFERENCES.md lists the messages that only one of the two accepts. The script `generated` checks these
-        # one by one.
+        # Some messages are accepted only by this library, or only by the reference implementation. docs/DIFFERENCES.md
+        # lists them, and the script tests/reference/generated checks them.
         self.assertGreater(seen["both"], TRIED // 2)
         self.assertGreater(seen["neither"], TRIED // 20)
         print(f"entries: {dict(seen)} of {TRIED} messages")

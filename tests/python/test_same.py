@@ -1,5 +1,5 @@
-"""Tests the comparison of two messages. The two messages have the same value in different layouts, or they have
-different values, or one message is rejected."""
+"""Tests the comparison of two messages. The messages have the same value in different layouts, or different values, or
+one of them is rejected."""
 import copy
 import mmap
 import pickle

@@ -1,4 +1,5 @@
-"""For a message in segments, each call returns what it returns for the stream of these segments."""
+"""Tests the calls that take a message as a list of segments. Each has to return what the call for a stream with these
+segments returns."""
 import array
 import random
 import unittest
@@ -13,13 +14,14 @@ CALLS = [
     (capn.canonical, capn.canonical_segments),
     (capn.digest, capn.digest_segments),
 ]
-# The root is a far pointer to the second segment. There, a struct of one word follows the landing pad.
+# The message has two segments. The root is a far pointer to the second segment, which has the landing pad and a struct
+# of one word.
 FIRST = bytes.fromhex("0200000001000000")
 SECOND = bytes.fromhex("0000000001000000" "0500000000000000")
 
 
 def told(call, *arguments):
-    """Returns the result of a call, or the text of its error."""
+    """Returns the result of a call, or the text and the attributes of its error."""
     try:
         return call(*arguments)
     except capn.Refusal as refusal:
@@ -57,11 +59,11 @@ class Segments(unittest.TestCase):
             self.assertEqual(capn.digest_segments(segments), digest)
         for segments in [bytearray(FIRST), bytearray(SECOND)], [bytearray(FIRST), memoryview(bytearray(SECOND))]:
             self.assertEqual(capn.digest_segments(segments, in_place=True), digest)
-            # No call keeps a buffer after it has returned.
+            # After a call has returned, it holds no buffer, so the buffer can be resized.
             segments[0].append(0)
         self.assertEqual(capn.canonical_segments([FIRST, SECOND]), SECOND)
         self.assertEqual(capn.check_segments([FIRST, SECOND]), capn.Checked(paid=3, visits=1))
-        # Segments may overlap, or be the same buffer.
+        # Two segments may overlap, or be the same buffer.
         self.assertEqual(told(capn.check_segments, [FIRST, FIRST]), told(capn.check, stream(FIRST, FIRST)))
 
     def test_what_is_refused(self):

@@ -1,5 +1,5 @@
-"""The output of `capn.show` has to be that of the program. It is compared with the stored cases, with the model, and
-with the program itself, if the program is built."""
+"""Tests that `capn.show` returns what the program prints. Compares its results with the stored test cases, with the
+Python model, and with the program if it is built."""
 import random
 import re
 import subprocess
@@ -14,12 +14,13 @@ RUN = re.compile(r"(?:run|archive) [0-9]+ show (.*)")
 
 
 def limit_of(option, value):
-    """Returns the name and the value of the limit that an option of the program sets."""
+    """Returns the name and the value of the limit that a command-line option sets."""
     return option[2:].replace("-", "_"), value if option == "--tariff" else int(value)
 
 
 def ran(words, data):
-    """Returns the output of a run of `show`, the line on standard error, and the exit status."""
+    """Does what the command `show` does, by calls of the package. Returns the output, the line on standard error, and
+    the exit status."""
     form, options, bounds, words, is_one = "stream", {}, {}, list(words), False
     while words:
         word = words.pop(0)
@@ -52,7 +53,8 @@ class Shown(unittest.TestCase):
         for case, answer in stored():
             found = RUN.fullmatch(case)
             words = found[1].split() if found else []
-            # The message is the last word of a stored run of `show`. Only the program has offsets and paths.
+            # The last word of a stored test case of `show` is the message. Cases with offsets or paths are left out,
+            # since only the program has them.
             if not found or not answer.startswith("status ") or answer.startswith("status 2"):
                 continue
             if {"--offsets", "--ways"} & set(words):
@@ -83,8 +85,8 @@ class Shown(unittest.TestCase):
                 self.assertEqual(ran(line[1:], data), (wrote.stdout, wrote.stderr.decode(), wrote.returncode))
 
     def test_a_part_is_shown_as_the_whole_is(self):
-        # The package shows a part, and the library shows a whole message. A message object and the bytes of the message
-        # have to give the same output.
+        # The Python package dumps a part of a message, and the C library dumps a whole message. `capn.show` has to
+        # return the same dump for a message object, for its root and for its bytes.
         source, shown = random.Random(9), 0
         for _ in range(1000):
             data = archives.framed(archives.segments_of(source))
@@ -106,7 +108,8 @@ class Shown(unittest.TestCase):
         self.assertGreater(shown, 2000)
 
     def test_texts_in_json(self):
-        # The library shows whole messages, and the package shows parts. Both are compared with the model.
+        # The C library dumps whole messages, and the Python package dumps parts. Both are compared with the Python
+        # model.
         source, texts = random.Random(10), 0
         some = ["", "a", "ä", "€", "😀", '"', "\\", "\t", "\n", "\r", "\0", "\x07", "\x7f", "\x80", "\x9f", "\xa0"]
         for _ in range(2000):
@@ -127,7 +130,7 @@ class Shown(unittest.TestCase):
         self.assertRaises(ValueError, capn.show, message)
 
     def test_deep(self):
-        # Shows a message of 256 nested lists of structs, which is as deep as a limit allows.
+        # The message has 256 nested lists of structs, which is the highest nesting limit that a caller may set.
         words = []
         for level in range(256):
             words += [1 | 7 << 32 | 1 << 35, 1 << 2 | 1 << 48]

@@ -1,4 +1,4 @@
-"""A signal handler raises an exception while a stream is read. No message may be lost or read twice.
+"""Tests signal handlers that raise an exception while a stream is read. No message may be lost or returned twice.
 
 Python runs a handler after a call that it made, or when a Python function begins. So a test reads a stream many times.
 In the first run, an exception is raised after the first such call in the package, in the next run after the second
@@ -22,17 +22,17 @@ from test_reading import Pieces
 from test_streams import SECONDS, SMALL, Blocking, Peeking
 
 LONG = stream(struct.pack("<IHH", 0, 600, 0) + bytes(range(1, 241)) * 20)
-# Messages of one segment, of two segments, and of no words; equal messages next to each other; and a message that is
-# longer than what a reader looks at in one call.
+# The messages of the stream. They have one segment, two segments, or no words, and two equal messages come one after
+# the other. One message is longer than the part of a stream that a reader looks at in one call.
 MESSAGES = [SMALL, SMALL, stream(bytes(8), bytes(16)), stream(b""), SMALL, LONG, SMALL]
 
 
 class Interrupted(Exception):
-    """The exception that the handler raises."""
+    """The exception that the signal handler raises."""
 
 
 def after(count):
-    """Arranges that an exception is raised once, after this number of calls in the package."""
+    """Sets a profile function that raises one exception, in the call with the number `count` that the package makes."""
 
     def watch(frame, event, _):
         nonlocal count
@@ -45,8 +45,8 @@ def after(count):
 
 
 def taken(found):
-    """Reads a stream, and goes on after each exception of the handler. Returns the messages and the number of
-    exceptions."""
+    """Reads a stream to its end, and continues after each exception of a signal handler. Returns the messages and the
+    number of exceptions."""
     got, raised = [], 0
     try:
         while True:
@@ -61,10 +61,10 @@ def taken(found):
 
 
 class EachCall(unittest.TestCase):
-    """Reads each stream again and again. In each run, an exception is raised after a later call in the package."""
+    """Reads each stream many times. In each run, the exception is raised in a later call of the package."""
 
     def files(self, data, folder):
-        """Yields functions that make files of these bytes."""
+        """Yields functions that each make a file with the given bytes. The kinds of files differ."""
         path = os.path.join(folder, "file")
         with open(path, "wb") as file:
             file.write(data)
@@ -101,7 +101,7 @@ class EachCall(unittest.TestCase):
         yield lambda: Peeking([data[:9], data[9:11], data[11:]])
 
     def each(self, data, make, wanted):
-        """Tests that every message comes, whichever call the exception follows."""
+        """Reads all kinds of files, and raises the exception after every call in turn. Every message has to come."""
         with tempfile.TemporaryDirectory() as folder:
             for number, file_of in enumerate(self.files(data, folder)):
                 with self.subTest(file=number):
@@ -125,7 +125,7 @@ class EachCall(unittest.TestCase):
                               lambda file: capn.messages(file, packed, read_ahead=ahead), MESSAGES)
 
     def test_digests(self):
-        # Leaves out the message without words, which has no digest. Its rejection would end the run.
+        # Leaves out the message without words. It has no digest, so it would be rejected and end the test.
         messages = [it for it in MESSAGES if it != stream(b"")]
         self.each(b"".join(messages), capn.digests, [capn.digest(message) for message in messages])
 
@@ -167,8 +167,8 @@ class EachCall(unittest.TestCase):
 
 
 class Loops(unittest.TestCase):
-    """A handler's exception ends a loop over a stream, and another loop goes on with the stream. No message is lost,
-    and none is returned twice."""
+    """Tests loops over a stream. The exception of a signal handler ends the loop, and a new loop continues with the
+    same stream. No message may be lost or returned twice."""
 
     def test_loops_go_on(self):
         is_in_loop, raised = False, 0
@@ -179,8 +179,8 @@ class Loops(unittest.TestCase):
                 is_in_loop = False
                 raise Interrupted
 
-        # A timer sends the signals after some processor time of this process. So each call has some time between two
-        # signals, whatever else runs on the machine.
+        # The timer counts the processor time of this process. So there is time for calls between two signals, even if
+        # the machine is busy.
         before = signal.signal(signal.SIGVTALRM, handler)
         messages = [stream((2 << 32).to_bytes(8, "little") + number.to_bytes(16, "little")) for number in range(20000)]
         try:
@@ -210,7 +210,8 @@ class Loops(unittest.TestCase):
 
 
 class Signals(unittest.TestCase):
-    """Signals come right after the chunks of a pipe or a socket. The handler raises its exception while `next` runs."""
+    """Tests signals that come right after a chunk of a pipe or a socket. The signal handler raises its exception while
+    `next` runs."""
 
     def setUp(self):
         self.is_in_next = False
@@ -225,7 +226,8 @@ class Signals(unittest.TestCase):
         signal.signal(signal.SIGUSR1, self.before)
 
     def read(self, found):
-        """Returns the messages. If a message was counted when an exception came, `last` is that message."""
+        """Reads a stream to its end, and returns the messages. If the reader had counted a message when an exception
+        came, takes this message from `last`."""
         got, raised, number = [], 0, 0
         while True:
             try:
@@ -255,8 +257,8 @@ class Signals(unittest.TestCase):
             for pair, buffering in (os.pipe, -1), (os.pipe, 0), (of_sockets, -1), (of_sockets, 0):
                 for ahead in False, True:
                     if pair is of_sockets and packed and not ahead and not buffering:
-                        # Leaves out packed streams from an unbuffered socket, which the package would read group by
-                        # group.
+                        # Leaves out packed streams from an unbuffered socket: the package reads them group by group,
+                        # which is slow.
                         continue
                     with self.subTest(packed=packed, pair=pair, buffering=buffering, ahead=ahead):
                         read, write = pair()

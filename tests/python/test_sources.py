@@ -1,4 +1,4 @@
-"""The source distribution builds alone. Building it writes nothing beside the sources."""
+"""Tests that the source distribution can be built alone, and that the build writes no file beside the source files."""
 import glob
 import os
 import shutil
@@ -9,7 +9,8 @@ import tempfile
 import unittest
 import zipfile
 
-# A copy of the repository's folder. tests/python/run makes it, and names it in CAPN_SOURCE.
+# The folder python in a copy of the repository. The script tests/python/run makes the copy, and sets the variable
+# CAPN_SOURCE.
 SOURCE = os.environ.get("CAPN_SOURCE", "")
 PRINTS = ("import capn; print(capn.digest(bytes.fromhex('00000000030000000000000002000000050000000000000000000000"
           "00000000')).hex(), capn.__file__)")
@@ -17,15 +18,15 @@ DIGEST = "6a3efd90ef3aebf0decabee51bbe92707bee76bb8f2830efd1bf615b14f61ac2"
 
 
 def setup(folder, *words):
-    """Runs the setup of a folder. The folder must have no repository around it."""
+    """Runs the `setup.py` of a folder. No repository may be around this folder."""
     env = {name: one for name, one in os.environ.items() if name not in ("CAPN_ARCHIVE", "LD_PRELOAD", "PYTHONPATH")}
     return subprocess.run([sys.executable, "-B", "setup.py", "-q", *words], cwd=folder, env=env, capture_output=True,
                           check=False, text=True)
 
 
 def top_in(folder):
-    """Copies the top of the repository into a folder, with the library at its place. Returns the copy, and a list of
-    what is in the folder python of the copy."""
+    """Copies the repository's source files and the built C library into a folder. Returns the path of the copy, and the
+    names of the files in its folder python."""
     top = os.path.join(folder, "top")
     shutil.copytree(os.path.dirname(SOURCE), top, ignore=shutil.ignore_patterns("build", "*.egg-info"))
     os.mkdir(os.path.join(top, "build"))
@@ -57,7 +58,7 @@ class Sources(unittest.TestCase):
                                  check=False, env={**os.environ, "PYTHONPATH": site})
             self.assertEqual((ran.stderr, ran.stdout.split()),
                              ("", [DIGEST, os.path.join(site, "capn", "__init__.py")]))
-            # The unpacked source distribution makes another source distribution.
+            # A source distribution can also be made from the unpacked source distribution.
             ran = setup(alone, "sdist", "--dist-dir", os.path.join(folder, "again"))
             self.assertEqual(ran.returncode, 0, ran.stderr)
             [again] = glob.glob(os.path.join(folder, "again", "*.tar.gz"))

@@ -1,4 +1,4 @@
-"""For the stored cases, each call returns what the stored answers of the library and the program say."""
+"""Tests the stored test cases. Each call has to return the stored result of the library or the program."""
 import re
 import unittest
 from pathlib import Path
@@ -8,13 +8,15 @@ import capn
 CRATES = Path(__file__).resolve().parents[2] / "crates"
 CALLS = re.compile(
     r"(plain )?(canonicalise|is_canonical|survey|pack|unpack) .*|run \d+ hash --form (bare|stream) (?!--).*"
-    # Take a packed stream only if it has one message. The digest of one message is a line of 65 bytes.
+    # Matches a test case with a packed stream only if the stream has one message: the digest of one message is a line
+    # of 65 bytes.
     r"|run \d+ hash --form packed (?!--)[^|]*\|status 0, [0-9a-f]{130}"
 )
 
 
 def stored():
-    """Yields each case with its answer. The case and the answer are the second and the third of three lines."""
+    """Yields each stored test case with its result. A case has three lines. The second line is the call, and the third
+    line is the result."""
     for file in sorted(CRATES.glob("conformance_*/cases/*")):
         for one in file.read_text().removesuffix("\n").split("\n\n"):
             _, case, answer = one.splitlines()
@@ -22,8 +24,8 @@ def stored():
 
 
 def cases():
-    """Returns the cases that a call can answer, with their answers. The other cases are for the program or for crates
-    only."""
+    """Returns the stored test cases that a call of the Python package can run, each with its result. The other cases
+    are only for the program or for the crates."""
     return [both for both in stored() if CALLS.fullmatch("|".join(both))]
 
 
@@ -32,8 +34,8 @@ def digits(data):
 
 
 def hashed(data, form):
-    """Returns the exit status and the output of `capn hash`. The output has a line for each message up to the first
-    that is rejected."""
+    """Computes what `capn hash` does for an input. Returns the exit status, the output and the error as one text. The
+    output has a line for each message before the first rejected one."""
     lines = ""
     try:
         for message in (parted(data) if form == "stream" else [data]):
@@ -44,7 +46,7 @@ def hashed(data, form):
 
 
 def parted(data):
-    """Yields each message of a stream. The last item has the remaining bytes."""
+    """Splits a stream, and yields its messages. The last item is the rest of the stream, which may not be a message."""
     while data:
         end = len(data)
         try:
@@ -57,7 +59,7 @@ def parted(data):
 
 
 def answer(words):
-    """Returns the result of a call, in the form of the stored answers."""
+    """Makes the call of a test case, and returns the result in the format of the stored results."""
     tariff = "strict"
     if words[0] == "plain":
         tariff, words = "plain", words[1:]
@@ -83,7 +85,8 @@ class Stored(unittest.TestCase):
         answered = cases()
         self.assertGreater(len(answered), 500)
         for case, wanted in answered:
-            # In the library, a check reports no capability, and an error of unpacking names no form.
+            # The stored results have two texts that the library doesn't report: the capability after a check, and
+            # errors of unpacking without the prefix `packed: `.
             wanted = re.sub(r", (no capability|capability \d+)$", "", wanted)
             wanted = re.sub(r"^(Cut|TooLong) at", r"packed: \g<0>", wanted)
             with self.subTest(case=case):

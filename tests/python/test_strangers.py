@@ -1,5 +1,6 @@
-"""Tests untrusted input. The sender of a message may use another schema, or an older or a newer version of the schema.
-A message with a segment table may be read as one without. Each exception that such input causes is a `ValueError`."""
+"""Tests input from senders that aren't trusted. A sender may use another schema, or another version of the schema. The
+reader may read a message with a segment table as a message without one. Each exception that such input causes is a
+`ValueError`."""
 import unittest
 import warnings
 
@@ -16,12 +17,13 @@ SMALL = bytes.fromhex("0000000003000000" "0000000002000000" "0500000000000000" "
 
 
 class Canonical(unittest.TestCase):
-    """Without a form, `is_canonical` reads the bytes as bare words. With a form, it reads the bytes as this form."""
+    """Tests `is_canonical`. Without the argument `form`, it reads the bytes as a single segment without a segment
+    table."""
 
     def test_a_frame(self):
-        # Read as bare words, the segment table is a pointer to a struct whose data is the segment. This struct is
+        # If the message is read without a form, its segment table is taken as a pointer to a struct. This struct is
         # canonical, since its last word isn't zero. The message itself isn't canonical, since the last data word of its
-        # own struct is zero.
+        # root struct is zero.
         loose = stream(bare(("struct", [5, 0], [text("abc")])))
         with self.assertWarnsRegex(DeprecationWarning, "^is_canonical without a form reads the words") as caught:
             self.assertTrue(capn.is_canonical(loose))
@@ -71,7 +73,8 @@ class Schemas(unittest.TestCase):
         self.assertEqual((root.word(0), root.word(1), root.slot(0).text()), (5, 0, "abc"))
         self.assertEqual((root.slot(1).kind, root.slot(1).struct().text(0, "none"), [*root.slot(1).list()]),
                          ("null", "none", []))
-        # `words` has the stored words as a memoryview. `word` returns 0 beyond them.
+        # The property `words` is a memoryview of the words in the message. The method `word` returns 0 for a word
+        # beyond the struct's end.
         self.assertIsInstance(root.words, memoryview)
         for wrong in (lambda: root.words[1], lambda: root.slots[1], lambda: root.slot(0)[4],
                       lambda: root.slot(0).view[4]):
@@ -121,14 +124,15 @@ class Schemas(unittest.TestCase):
         self.assertGreater(min(answered, raised), 50)
 
     def test_lists_of_other_schemas(self):
-        # Each value is read in three ways: as structs (their first number and the kind of their first pointer), as
-        # numbers of 16 bits, and as pointers (their kinds). None stands for an error.
+        # Each value is read in three ways: as a list of structs, as a list of 16-bit numbers, and as a list of
+        # pointers. The expected results are the first number and the kind of the first pointer of each struct, the
+        # numbers, and the kinds of the pointers. None means that an error is expected.
         two = (0x10003).to_bytes(8, "little")
         for value, rows, numbers, pointers in (
             (None, [], [], []),
             (("list", 0, 2, b""), [(0, "null")] * 2, None, None),
             (("list", 1, 2, two), None, None, None),
-            # A number of 8 bits is too short for a field of 16 bits.
+            # An element of 8 bits is too short for a field of 16 bits.
             (("list", 2, 3, two), [(0, "null")] * 3, None, None),
             (("list", 3, 2, two), [(3, "null"), (1, "null")], [3, 1], None),
             (("list", 4, 1, two), [(3, "null")], None, None),
@@ -137,7 +141,8 @@ class Schemas(unittest.TestCase):
             (("pointers", [text("abc"), None]), [(0, "bytes"), (0, "null")], None, ["bytes", "null"]),
             (("rows", 1, 2, [([0x10003], [None, None]), ([4], [text("abc"), None])]), [(3, "null"), (4, "bytes")],
              [3, 4], ["null", "bytes"]),
-            # If a struct has no words, its number is the default. If a struct has no pointers, its pointer is null.
+            # If a struct in the list has no words, its number is the default. If it has no pointers, its pointer is
+            # null.
             (("rows", 1, 0, [([5], [])]), [(5, "null")], [5], ["null"]),
             (("rows", 0, 1, [([], [text("abc")])]), [(0, "bytes")], [0], ["bytes"]),
             (("rows", 0, 0, [([], [])] * 2), [(0, "null")] * 2, [0, 0], ["null", "null"]),
@@ -179,7 +184,8 @@ class Schemas(unittest.TestCase):
         self.assertEqual((len(rows), rows[-1].uint(16, 0), rows[0].uint(16, 1, 9), rows[0].text(0, "none")),
                          (2, 1, 9, "none"))
         self.assertEqual([row.word(0) for row in rows[1:]], [1])
-        # A missing element is a `ValueError`, too, since the sender chooses how many elements there are.
+        # The sender chooses how many elements a list has. So the exception for a missing element is also a
+        # `ValueError`.
         null, numbers = of(None), of(("rows", 1, 1, [([5], [None])]))
         for wrong in (lambda: rows[2], lambda: null.list()[0], lambda: null.rows()[0], lambda: null.numbers(16)[0],
                       lambda: null.pointers()[0], lambda: numbers.numbers(16)[1], lambda: numbers.pointers()[1]):
@@ -188,8 +194,8 @@ class Schemas(unittest.TestCase):
         self.assertEqual((of(None).list().kind, len(of(None).list())), ("null", 0))
 
     def test_a_field_that_is_wider_than_the_number_of_an_older_list(self):
-        # Each list of numbers is read as structs. A field inside the number has its bits, and any other field has its
-        # default.
+        # Reads lists of numbers as lists of structs. A field that fits into the number has the number's bits. Any other
+        # field has its default.
         stored = (0x8877665544332281).to_bytes(8, "little")
         for width, code in (8, 2), (16, 3), (32, 4), (64, 5):
             [row] = of(("list", code, 1, stored)).rows()
@@ -207,13 +213,14 @@ class Schemas(unittest.TestCase):
             for bit in range(70):
                 is_set = bit < width and bool(stored[bit // 8] >> bit % 8 & 1)
                 self.assertEqual((row.bool(bit), row.bool(bit, True)), (is_set, not is_set))
-        # Reads the byte 5 as a field of 16 bits with the default 7. The byte is too short for the field, so the field
-        # has its default.
+        # Reads the byte 5 as a struct with a field of 16 bits, whose default is 7. The byte is too short for the field,
+        # so the field has its default.
         message = b"".join(word.to_bytes(8, "little") for word in (1 << 48, 1 | (2 | 1 << 3) << 32, 5))
         self.assertEqual(capn.read(message, "bare").root.struct().slot(0).rows()[0].uint(16, 0, default=7), 7)
 
     def test_structs_without_words_are_zeros_and_without_pointers_nulls(self):
-        # Two structs of a zero word, and their canonical bytes, in which the structs have no words.
+        # `long` is a list of two structs, which have one zero word each. `short` has the canonical bytes of `long`, in
+        # which the structs have no words.
         long = [0x1000000000000, 0x1700000001, 0x100000008, 0, 0]
         short = [0x1000000000000, 0x700000001, 0x8]
         messages = [b"".join(word.to_bytes(8, "little") for word in words) for words in (long, short)]
@@ -229,7 +236,7 @@ class Schemas(unittest.TestCase):
                 self.assertRaises(capn.Mismatch, wrong)
 
     def test_texts_and_data(self):
-        # If the sender causes an exception, the exception is always a `Mismatch`. It may have other classes, too.
+        # An exception that the sender causes is always a `Mismatch`. It may have other base classes, too.
         values = [None, ("struct", [1], [None]), ("list", 0, 3, b""), ("list", 1, 3, bytes(8)), text("abc"),
                   ("list", 3, 1, bytes(8)), ("pointers", [None]), ("rows", 1, 1, [([5], [None])]),
                   ("list", 2, 3, b"abc" + bytes(5)), ("list", 2, 0, b""), ("list", 2, 3, b"\xff\xfe\0" + bytes(5))]

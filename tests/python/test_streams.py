@@ -1,5 +1,5 @@
-"""Tests streams that arrive in chunks: when each message is returned, which bytes are left unread, and the state after
-an exception."""
+"""Tests streams that arrive in chunks: when each message is returned, which bytes the reader leaves unread, and the
+state of the reader after an exception."""
 import asyncio
 import bz2
 import contextlib
@@ -24,7 +24,8 @@ from messages import stream
 from test_reading import Pieces, archives, generated, model
 
 SMALL = bytes.fromhex("0000000003000000" "0000000002000000" "0500000000000000" "0000000000000000")
-# A message of one segment, one of two segments, one without words, and one that is longer than a chunk.
+# The messages of the tests: one with one segment, one with two segments, one without words, and one that is longer than
+# a chunk.
 SHAPES = [
     SMALL,
     stream(bytes(8), bytes(16)),
@@ -35,7 +36,7 @@ SECONDS = 20
 
 
 def in_time(call, *arguments):
-    """Makes a call in another thread, and returns its result if it comes in time."""
+    """Makes a call in another thread. Returns the result if it comes within SECONDS."""
     answers = []
     thread = threading.Thread(target=lambda: answers.append(call(*arguments)), daemon=True)
     thread.start()
@@ -44,8 +45,8 @@ def in_time(call, *arguments):
 
 
 class Blocking:
-    """A file that returns chunks. It returns None if it has no bytes now. If a chunk is an exception, the file raises
-    it."""
+    """A file whose `read` returns the given chunks. A chunk may be None, which means that no bytes have come yet. If a
+    chunk is an exception, `read` raises it."""
 
     def __init__(self, pieces):
         self.pieces, self.read_at_all = list(pieces), 0
@@ -65,7 +66,7 @@ class Blocking:
 
 
 class Peeking(Blocking):
-    """A `Blocking` file with `peek`, which sees no further than one chunk."""
+    """A `Blocking` file that also has `peek`. One call of `peek` returns at most one chunk."""
 
     def peek(self, size=0):
         while self.pieces and self.pieces[0] == b"":
@@ -78,7 +79,8 @@ class Peeking(Blocking):
 
 
 class AsSoonAsItIsThere(unittest.TestCase):
-    """A peer that waits for a reply before it sends more."""
+    """Tests readers whose sender waits for a reply before it sends more. Each message has to be returned as soon as it
+    is complete."""
 
     def test_a_socket(self):
         for buffering in -1, 0:
@@ -116,7 +118,7 @@ class AsSoonAsItIsThere(unittest.TestCase):
 
 class NoByteAfterIt(unittest.TestCase):
     def files(self, data, folder):
-        """Yields the files that have these bytes."""
+        """Yields files of different kinds, each with the given bytes."""
         path = os.path.join(folder, "file")
         with open(path, "wb") as file:
             file.write(data)
@@ -144,8 +146,8 @@ class NoByteAfterIt(unittest.TestCase):
                         with self.subTest(packed=packed, shape=shape, file=type(file)):
                             found = capn.messages(file, packed=packed)
                             self.assertEqual(next(found), message)
-                            # A new reader reads the second message. It can do so because the first reader took no byte
-                            # after its message.
+                            # A new reader can read the second message, because the first reader took no byte after its
+                            # own message.
                             self.assertEqual(next(capn.messages(file, packed=packed)), message)
                             rest = b""
                             while piece := file.read(100):
@@ -187,8 +189,8 @@ class NoByteAfterIt(unittest.TestCase):
         self.assertGreater(seen, 500)
 
     def test_bytes_that_come_one_by_one_are_unpacked_once(self):
-        # Reads packed bytes of 60,000 random bytes through a buffer of one byte. If the reader unpacked all earlier
-        # bytes again whenever a byte comes, this would take seconds.
+        # Packs 60,000 random bytes, and reads them through a buffer of one byte. This would take seconds if the reader
+        # unpacked all earlier bytes again for each new byte.
         message = stream(random.Random(70).randbytes(60_000))
         sent, start = capn.pack(message), time.process_time()
         found = capn.messages(io.BufferedReader(io.BytesIO(sent), 1), packed=True)
@@ -230,16 +232,16 @@ class NoByteAfterIt(unittest.TestCase):
             self.assertIn(file.read(), (b"after", sent + b"after"))
 
     def test_a_group_that_two_messages_share(self):
-        # Packs all messages together. The zero words then form one group, which has many messages without words and a
-        # part of another message.
+        # Packs all messages together. One group of packed bytes then has many messages without words, and also a part
+        # of another message.
         text = capn.pack(SMALL * 3 + stream(b"") * 10 + SMALL)
         for file in io.BytesIO(text), Blocking([text]), Peeking([text]):
             self.assertEqual(list(capn.messages(file, packed=True)), [SMALL] * 3 + [stream(b"")] * 10 + [SMALL])
 
 
 class Wound(unittest.TestCase):
-    """Files with `seek`. A reader may look ahead and find messages. It returns such a message only if the position of
-    the file is still where the message begins."""
+    """Tests files with `seek`. A reader may look ahead, and find several messages. It returns such a message only if
+    the position of the file is still the beginning of this message."""
 
     def files(self, data, folder):
         path = os.path.join(folder, "file")
@@ -253,8 +255,8 @@ class Wound(unittest.TestCase):
         yield Failing(data)
 
     def each(self, parts, run):
-        """Runs the test on files of each kind that contain these parts, both packed and unpacked. The test gets the
-        bytes of each part as the file has them."""
+        """Runs a test on files of each kind that contain the given parts, packed or not. The test gets a file, its
+        reader, and the bytes of each part in the file."""
         with tempfile.TemporaryDirectory() as folder:
             for packed in False, True:
                 sent = [capn.pack(part) if packed else part for part in parts]
@@ -278,7 +280,7 @@ class Wound(unittest.TestCase):
         self.each(parts, run)
 
     def test_it_is_wound(self):
-        # The long messages come last. When a reader looks ahead, it sees only their beginning.
+        # The long messages come last. A reader that looks ahead sees only the beginning of a long message.
         parts = [SMALL, SHAPES[1], SMALL, SMALL] + [stream(random.Random(73).randbytes(40_000))] * 2
 
         def run(file, found, sent):
@@ -317,7 +319,7 @@ class Wound(unittest.TestCase):
                     at = source.randrange(len(parts))
                     file.seek(places[at])
                 elif source.random() < 0.1:
-                    # Something else reads a message from the file.
+                    # The test itself reads a message from the file, and not the reader.
                     self.assertEqual(file.read(len(sent[at])), sent[at])
                     at += 1
                     continue
@@ -415,7 +417,7 @@ class Wound(unittest.TestCase):
 
 
 class Failing(io.BytesIO):
-    """A file with `peek`. One call of `peek` fails before it does anything."""
+    """A file with `peek`. One call of `peek` raises an exception before it reads anything."""
 
     fails = 0
 
@@ -482,7 +484,7 @@ class AfterAnException(unittest.TestCase):
                     self.assertRaises(StopIteration, next, found)
 
     def pipes(self):
-        """Yields buffered and unbuffered pipes, each with the function that packs the messages for it."""
+        """Yields pipes, buffered and unbuffered, each with the function that packs a message for it."""
         for buffering in 0, -1:
             for packed in False, True:
                 read, write = os.pipe()
@@ -497,7 +499,8 @@ class AfterAnException(unittest.TestCase):
         try:
             for file, other, packed, sent in self.pipes():
                 if isinstance(file, io.BufferedReader):
-                    # Leaves out buffered files. A BufferedReader forgets what it read before the exception.
+                    # Leaves out buffered files. If an exception is raised, a `BufferedReader` forgets the bytes that it
+                    # has read.
                     continue
                 found = capn.messages(file, packed=packed)
                 for message in SHAPES[:3] * 2:
@@ -681,8 +684,8 @@ class AfterAnException(unittest.TestCase):
 
 
 class Ahead(unittest.TestCase):
-    """With `read_ahead`, the reader gives the same results as soon as their bytes come. It may take bytes that
-    follow."""
+    """Tests readers with `read_ahead`. They return the same results as soon as the bytes have come, but may take bytes
+    after the message from the file."""
 
     def test_the_same_answers(self):
         source = random.Random(67)
@@ -787,14 +790,15 @@ class Splitters(unittest.TestCase):
                 self.assertEqual(refused, fault)
 
     def test_memory_that_is_there_later(self):
-        # The package allocates memory to find the end of a message of several segments. Here this allocation fails
-        # once.
+        # The package allocates memory in order to find the end of a message with several segments. In this test, the
+        # allocation fails once.
         message, ffi = SHAPES[1], capn._packed.ffi
         look = ffi.typeof("capn_look *")
         refusals = []
 
         def once(call):
-            """Returns the same call, except that the first call that succeeds reports that memory is out."""
+            """Returns a function that makes the same call, except that the first call that would succeed returns the
+            status for out of memory."""
             def little(*words):
                 status = call(*words)
                 if status == 0 and not refusals:
@@ -807,8 +811,8 @@ class Splitters(unittest.TestCase):
             return little
 
         def once_of_one(call):
-            """Returns the call that looks at one message, except that the first call that succeeds reports that memory
-            is out. The call returns a number of bytes. If memory is out, this number is 0."""
+            """Returns a function that makes the same call, which looks at one message and returns a number of bytes.
+            The first call that would succeed returns 0 and sets the status for out of memory."""
             def little(text, size, one):
                 taken = call(text, size, one)
                 if taken and not refusals:
@@ -956,7 +960,7 @@ class Files(unittest.TestCase):
         self.assertEqual(list(found), [])
 
     def test_memory_grows_as_bytes_come(self):
-        # The segment table announces 64 MiB, but only few bytes come.
+        # The segment table announces 64 MiB, but the file has only a few bytes.
         asked = []
 
         class File:

@@ -1,5 +1,5 @@
-"""Two calls use one stream at once. They come from two threads, from a signal's handler, or from two tasks. The second
-call raises `ValueError`. No message is lost, read twice or changed."""
+"""Tests two calls that use one stream at the same time: from two threads, from a signal handler, or from two tasks. The
+second call raises a `ValueError`. No message is lost, returned twice or changed."""
 import asyncio
 import collections
 import io
@@ -20,7 +20,7 @@ SECONDS = float(os.environ.get("CAPN_SECONDS", "0.7"))
 
 
 def numbered(count):
-    """Returns this many different messages. Each is a struct of words."""
+    """Returns `count` different messages. The root of each message is a struct of words."""
     source, made = random.Random(3), []
     for number in range(1, count + 1):
         words = source.choice([2, 4, 39, 199])
@@ -30,7 +30,8 @@ def numbered(count):
 
 
 def each_kind(sent, folder):
-    """Yields the kinds of streams of these messages. Each has its name and a function that makes the stream."""
+    """Yields different kinds of streams with the given messages. Each kind has a name, a function that makes the
+    stream, and two flags: whether the stream is packed, and whether it is read ahead."""
     packed = list(map(capn.pack, sent))
 
     def on_disk(parts, buffering):
@@ -63,13 +64,13 @@ def each_kind(sent, folder):
 
 
 def close(file):
-    """Closes a file. Does nothing for bytes."""
+    """Closes a stream if it is a file. Does nothing if the stream is bytes."""
     if not isinstance(file, bytes):
         file.close()
 
 
 class Workers:
-    """Threads that take messages from one stream until it ends."""
+    """Two threads that take messages from one stream until the stream ends."""
 
     def __init__(self, take):
         self.take, self.got, self.busy, self.wrong = take, [], 0, []
@@ -97,8 +98,8 @@ class Workers:
 
 
 def stress(until):
-    """Runs two threads on each kind of stream, again and again. Prints the errors, and how often a call was
-    rejected."""
+    """Runs two threads on each kind of stream, many times. Prints the errors, and the number of calls that were
+    rejected because the stream was in use."""
     sys.setswitchinterval(1e-6)
     sent, busy = numbered(1500), 0
     wanted = collections.Counter(sent)
@@ -140,7 +141,7 @@ def stress(until):
 
 class TwoThreads(unittest.TestCase):
     def test_workers_that_share_a_stream(self):
-        # This runs in a process of its own, because a memory error would end the process.
+        # The test runs in another process, because a memory error would end the process.
         ran = subprocess.run([sys.executable, "-B", __file__, "stress"], capture_output=True, text=True, timeout=500)
         self.assertEqual((ran.returncode, ran.stderr), (0, ""), ran.stdout)
         self.assertRegex(ran.stdout, r"^busy [1-9]\d*\n$")
@@ -170,11 +171,11 @@ class TwoThreads(unittest.TestCase):
 
 
 class Handlers(unittest.TestCase):
-    """When a signal comes, its handler calls the stream that is being read."""
+    """Tests a signal handler that uses the stream that the interrupted call is reading."""
 
     def reads_in_between(self, found, call, wanted):
-        """Makes another call while the package makes its first call of C. The stream is in use, so the other call has
-        to fail."""
+        """Makes a call, and a second call while the first one calls C. The second call has to fail, since the stream is
+        in use."""
         wrong, got = [], []
 
         def watch(frame, event, _):
@@ -256,7 +257,7 @@ class TwoTasks(unittest.TestCase):
             reader.feed_data(capn.pack(first + second) if packed else first + second)
             reader.feed_eof()
             self.assertEqual([await waits, await anext(found)], [first, second])
-            # The stream ends after its last message.
+            # After its last message, the stream ends.
             with self.assertRaises(StopAsyncIteration):
                 await anext(found)
 

@@ -1,4 +1,4 @@
-"""Tests the declared types, at run time and with mypy. mypy also reads the programs of the page."""
+"""Tests the type hints of the package, at run time and with mypy. mypy also checks the programs of docs/PYTHON.md."""
 import inspect
 import os
 import shutil
@@ -13,7 +13,7 @@ import capn
 from test_page import programs
 
 SITE = Path(capn.__file__).resolve().parents[1]
-# A program with what a reader may do with each kind of object, and with the errors that mypy has to find.
+# A program for mypy. It uses each kind of object as a caller may, and has errors that mypy must find.
 KINDS = """
 import capn
 from typing import assert_type
@@ -109,7 +109,7 @@ def classes():
 
 
 def functions():
-    """Yields the public functions of the package, and those of its classes."""
+    """Yields the public functions of the package, and the functions of its public classes."""
     for name in capn.__all__:
         one = getattr(capn, name)
         if inspect.isfunction(one):
@@ -117,7 +117,7 @@ def functions():
     for one in classes():
         for inner in vars(one).values():
             inner = inner.fget if isinstance(inner, property) else inner
-            # Methods that Python makes for a dataclass or a tuple have no hints.
+            # Leaves out methods without type hints, which Python itself makes for a dataclass or a tuple.
             if inspect.isfunction(inner) and Path(inner.__code__.co_filename).parent == SITE / "capn":
                 yield inner
 

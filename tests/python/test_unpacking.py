@@ -1,4 +1,4 @@
-"""Tests packed bytes that unpack to very many bytes: how many of these are unpacked, and when."""
+"""Tests packed bytes that unpack to very many bytes: how many bytes a call unpacks, and when."""
 import io
 import random
 import tracemalloc
@@ -10,13 +10,13 @@ from messages import stream
 from test_reading import archives, generated, model
 
 EMPTY = stream(b"")
-# The packed bytes of 256 zero words. Each word is a message without words.
+# The packed bytes of 256 zero words. As a stream, each zero word is a message without words.
 MANY = b"\x00\xff"
 MIB = 1 << 20
 
 
 def peak(call):
-    """Returns the result or the exception of a call, and the most memory that the call used."""
+    """Returns the result of a call, or its exception, and the most memory that the call used."""
     tracemalloc.start()
     try:
         try:
@@ -29,7 +29,7 @@ def peak(call):
 
 
 def all_of(splitter, data):
-    """Returns all messages that are complete after some bytes."""
+    """Feeds bytes to a splitter, and returns all messages that are then complete."""
     got, found = [], splitter.feed(data)
     while found:
         got += found
@@ -41,7 +41,7 @@ class Splitters(unittest.TestCase):
     LIMITS = capn.Limits(message_words=1 << 10, budget=1 << 10)
 
     def test_few_bytes_are_many_messages(self):
-        # One MiB of these packed zeros unpacks to 134,217,728 messages.
+        # One MiB of the packed zeros in MANY unpacks to 134,217,728 messages.
         splitter = capn.Splitter("packed", self.LIMITS)
         found, took = peak(lambda: splitter.feed(MANY * (1 << 19)))
         self.assertLess(took, 64 * MIB)
@@ -73,7 +73,7 @@ class Splitters(unittest.TestCase):
         splitter.end()
 
     def test_a_table_is_looked_at_before_its_message_is_unpacked(self):
-        # The segment table announces 2,048 words, which is over the limit. After the table come packed zeros that
+        # The segment table announces 2,048 words, which is over the limit. The packed zeros after the table would
         # unpack to 128 MiB.
         splitter = capn.Splitter("packed", self.LIMITS)
         data = capn.pack((1 << 11 << 32).to_bytes(8, "little")) + MANY * (1 << 16)
@@ -91,8 +91,7 @@ class Splitters(unittest.TestCase):
         self.assertLess(took, 16 * MIB)
 
     def test_as_many_as_were_fed_come_at_once(self):
-        # If packed bytes unpack like ordinary messages, one call returns all their messages, however many bytes there
-        # are.
+        # If packed bytes don't unpack to unusually many bytes, one call returns all their messages.
         source = random.Random(5)
         parts = [stream(source.randbytes(8 * source.randint(0, 40))) for _ in range(60_000)]
         splitter = capn.Splitter("packed")
@@ -145,7 +144,7 @@ class Streams(unittest.TestCase):
 
     def test_every_other_way(self):
         class Plain:
-            """A file without `peek`. The first call of `read` returns all bytes of the file."""
+            """A file without `peek`. Its first `read` returns all bytes of the file."""
 
             def __init__(self, data):
                 self.data = [data]

@@ -24,17 +24,18 @@ settings.load_profile("here")
 
 
 def of(value):
-    """Returns the root of a value of `messages`."""
+    """Encodes a value of the module `messages`, and returns the root object of the message."""
     return capn.read(bare(value), "bare").root
 
 
 def text(written):
-    """Returns a text as a value of `messages`."""
+    """Returns a text as a value of the module `messages`."""
     return "list", 2, len(written) + 1, written.encode() + bytes(8 - len(written) % 8)
 
 
 def capability(number):
-    """Returns a message with a capability in a pointer of a struct."""
+    """Returns the capability in a message. The root of the message is a struct whose only pointer is this
+    capability."""
     return capn.read(struct.pack("<2Q", 1 << 48, 3 | number << 32), "bare").root.slots[0]
 
 
@@ -212,15 +213,15 @@ class Objects(unittest.TestCase):
             (lambda i: rows_of[i].words[0], lambda i: root.slots[0][i].words[0]),
             (lambda i: items[i][0], lambda i: root.slots[1][i][0]),
         ]:
-            # The list of 3,000 places is made once. If each access made it again, this would take over 100 times as
-            # long.
+            # The list of the 3,000 offsets is made only once. If each access made the list again, the loop would take
+            # over 100 times as long.
             self.assertLess(seconds(again), 20 * seconds(held) + 0.05)
         self.assertEqual([root.slots[0][i].words[0] for i in range(3000)], list(range(3000)))
         self.assertEqual(rows_of[2999].slots[0].text(), "a")
 
 
 class Fields(unittest.TestCase):
-    """A program of the reference implementation wrote these messages with a schema. The values are read with the same
+    """Tests the fields of messages that the tool `capnp` writes with a schema. The test reads the fields of the same
     schema."""
 
     def encoded(self, kind, written):
@@ -249,8 +250,7 @@ class Fields(unittest.TestCase):
     def test_defaults(self):
         for kind in "Old", "New":
             self.assertEqual(self.fields(self.encoded(kind, "()")), self.USUAL)
-        # Reads structs that may have fewer words than their type, and that have no pointers. Each field has its
-        # default.
+        # Reads structs without pointers and with too few words for their type. Each field has its default.
         for words in range(7):
             root = capn.read(bare(("struct", [0] * words, [])), "bare").root
             self.assertEqual(self.fields(root), self.USUAL)
@@ -266,7 +266,7 @@ class Fields(unittest.TestCase):
         new = self.encoded("New", written.format("[(number = 1), (number = 2, name = \"x\")]"))
         self.assertEqual((self.fields(old), self.fields(new)), (wanted, wanted))
         self.assertEqual((old.slots[1].kind, new.slots[1].kind), ("u16", "rows"))
-        # The fields of the newer type can also be read from the message of the older type.
+        # The fields that only the newer type has can also be read from the message of the older type.
         self.assertEqual((old.uint(64, 6, 9), new.uint(64, 6, 9), old.text(2), new.text(2, "x")), (9, 9, "", "x"))
 
     def test_the_number_of_the_review(self):
@@ -399,8 +399,8 @@ class HowMany(unittest.TestCase):
         self.assertRaises(TypeError, capn.read, data, most_slots=1.0)
 
     def test_few_bytes_have_many_slots(self):
-        # Three lists of 193 pointers. Each pointer of the first two lists refers to the next list. So each list is
-        # visited once for each pointer to it.
+        # Three lists of 193 pointers each. Each pointer of the first two lists refers to the next list. So the
+        # traversal visits a list once for each pointer to it.
         count, words = 193, [1 | 6 << 32 | 193 << 35]
         for _ in range(2):
             words += [count - 1 - i << 2 | 1 | 6 << 32 | count << 35 for i in range(count)]

@@ -1,5 +1,5 @@
-"""Tests the place of an error, the parts of the message that a refusal keeps, and the first difference from the
-canonical form."""
+"""Tests three attributes of results: the place of an error, the parts of a message that a `Refusal` keeps, and the
+first difference from the canonical form."""
 import copy
 import dataclasses
 import gc
@@ -13,8 +13,8 @@ import capn
 from messages import far, stream
 from test_explained import CALLS, SEGMENTS, explain, refusal_of, stop, stop_of
 
-# The root is a struct of 1 word and 2 pointers. The first pointer is null, and the second refers to a list of more
-# bytes than the message has.
+# The root is a struct of one word and two pointers. The first pointer is null, and the second refers to a list that is
+# longer than the message.
 WORDS = [1 << 32 | 2 << 48, 5, 0, 1 | 2 << 32 | (1 << 28) << 35]
 BARE = struct.pack("<4Q", *WORDS)
 REFUSED = stream(BARE)
@@ -30,8 +30,9 @@ class Refusals(unittest.TestCase):
                     self.assertEqual(stop_of(refusal), ((1,), byte))
                 self.assertEqual(stop_of(refusal_of(capn.show, kind(data), form)), ((1,), byte))
         self.assertEqual(stop_of(refusal_of(capn.is_canonical_words, BARE)), ((1,), 24))
-        # The path of an error at the root pointer is empty. If the message has no root, the path is empty and there is
-        # no byte. For a far pointer, the place is that of the pointer, and not that of its landing pad.
+        # If the error is at the root pointer, the path is empty. If the message has no root, the path is empty and the
+        # byte is None. If a far pointer leads to the error, the place is that of the far pointer, and not that of its
+        # landing pad.
         self.assertEqual(stop_of(refusal_of(capn.check, stream(bytes(4) + b"\1" + bytes(3)))), ((), 8))
         self.assertEqual(stop_of(refusal_of(capn.check, far(BARE))), ((1,), 48))
         self.assertEqual(stop_of(refusal_of(capn.check, far(b""))), ((), 16))
@@ -54,7 +55,7 @@ class Refusals(unittest.TestCase):
         self.assertEqual(stop_of(capn.Refusal("Range at 0:3, paid 0, visits 0", "Range", (0, 3))), (None, None))
 
     def test_of_a_stream(self):
-        # The byte of an error counts from the start of its message. The refusal also has the offset of the message in
+        # The byte of an error counts from the start of its message. The `Refusal` also has the offset of the message in
         # the stream.
         good = stream(bytes(8))
         for packed in False, True:
@@ -93,7 +94,7 @@ class Refusals(unittest.TestCase):
 
 
 class Held(unittest.TestCase):
-    """Tests what a refusal keeps of a message."""
+    """Tests which parts of a message a `Refusal` keeps."""
 
     def test_bytes_until_it_is_asked(self):
         for given, form in (REFUSED, "stream"), (capn.pack(REFUSED), "packed"):
@@ -107,8 +108,8 @@ class Held(unittest.TestCase):
             self.assertEqual(refusal.way, (1,))
 
     def let_go(self, call, given, then, wanted=((1,), 32), **options):
-        """Makes a call that rejects its message, and calls `then` in the handler, while the traceback still holds the
-        objects of the call. The refusal has to give the wanted path and byte afterwards."""
+        """Makes a call that rejects its message. While the traceback still holds the objects of the call, calls `then`,
+        which clears or closes the message's buffer. The `Refusal` must still have the wanted path and byte."""
         try:
             call(given, **options)
         except capn.Refusal as refusal:

@@ -1,5 +1,5 @@
-"""Hypothesis, or a stand-in that skips the tests that need Hypothesis if it isn't installed. Also says whether the
-module runs under sanitizers, which need more address space than a test may allow."""
+"""Imports Hypothesis. If Hypothesis isn't installed, a stand-in skips the tests that need it. `IS_SANITIZED` says
+whether the package's C module was built with sanitizers, which need more address space."""
 import os
 import unittest
 
@@ -9,7 +9,8 @@ try:
 except ImportError:
 
     class Absent:
-        """Stands in for the strategies of Hypothesis. Its values are never used, since no test that needs them runs."""
+        """A stand-in for the strategies of Hypothesis. Its results are never used, since the tests that need them are
+        skipped."""
 
         def __getattr__(self, name):
             return self
@@ -21,7 +22,7 @@ except ImportError:
             return self
 
     class Settings(Absent):
-        """Stands in for the settings of Hypothesis, and leaves a test unchanged."""
+        """A stand-in for the settings of Hypothesis. It leaves each test unchanged."""
 
         def __call__(self, *words, **options):
             return lambda test: test
