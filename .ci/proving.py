@@ -1,5 +1,5 @@
-"""Shared code of the scripts that prove crates. It reads crates.txt, copies crates, runs `rt ci` with a line for each
-crate that is done, and builds the library for C."""
+"""The shared code of the scripts that prove crates. It reads crates.txt, copies crates, runs `rt ci`, prints a line
+when a crate is done, and builds the library for C."""
 
 import glob
 import os
@@ -12,15 +12,15 @@ import time
 
 TOP = os.path.abspath(os.path.join(os.path.dirname(os.path.abspath(__file__)), ".."))
 BUILD = os.path.join(TOP, "build")
-# The library for C, and the line that is printed while it is proved and built. `rt ci` doesn't build its archive.
+# The crate of the library for C, and the log of its build. `rt ci` proves the crate, but doesn't build its archive.
 LIBRARY = "capn_c"
 LIBRARY_LOG = os.path.join(BUILD, "library.log")
-# Crates that are run unproved. Only the whole run proves them, as it proves the crates that have tests.
+# Crates that `make test` runs without a proof. Only `make test-all` proves these crates and the crates that have tests.
 UNPROVED = ("bench",)
 
 
 class Stop(Exception):
-    """The reason why a script ends with status 1."""
+    """An exception whose text says why a script ends with status 1."""
 
 
 def text_of(path):
@@ -29,14 +29,14 @@ def text_of(path):
 
 
 def crates(top=TOP):
-    """Returns each crate with the crates of the repository that it uses, in the order of crates.txt."""
+    """Returns each crate with the crates of this repository that it uses, in the order of crates.txt."""
     lines = re.findall(r"^(\w+)(?: staticlib)?:(.*)$", text_of(os.path.join(top, "crates.txt")), re.M)
     names = {name for name, _ in lines}
     return {name: [it for it in used.split() if it in names] for name, used in lines}
 
 
 def below(names, uses):
-    """Returns these crates and all below them, in the order of crates.txt."""
+    """Returns the given crates and all crates that they use, directly or not, in the order of crates.txt."""
     found, left = set(), list(names)
     while left:
         name = left.pop()
@@ -54,18 +54,18 @@ def has_tests(name):
 
 
 def edits_of(name):
-    """Returns the edits of a crate that the prover must refuse."""
+    """Returns the paths of the must-fail edits of a crate, which the prover must refuse."""
     return sorted(glob.glob(os.path.join(TOP, "crates", name, "must-fail", "*.edit")))
 
 
 def proved_by_the_gate(uses):
-    """Returns the crates that the gate proves. The gate only runs the others, unproved."""
+    """Returns the crates that `make test` proves. `make test` only runs the other crates, and doesn't prove them."""
     return below([it for it in uses if it not in UNPROVED and not has_tests(it)], uses)
 
 
 def copied(names, edits, room):
-    """Copies these crates into a folder with the layout of the repository, and returns the folder. Only the crates in
-    `edits` are copied with their edits."""
+    """Copies the given crates into a folder with the layout of the repository, and returns the folder. The must-fail
+    edits are copied only for the crates in `edits`."""
     top = os.path.join(room, "repo")
     os.makedirs(os.path.join(top, ".git"))
     lines = text_of(os.path.join(TOP, "crates.txt")).split("\n")
@@ -81,7 +81,7 @@ def copied(names, edits, room):
 
 
 def told(line):
-    """Writes a line of progress to the user, even if other output goes elsewhere."""
+    """Prints a line of progress for the user. If CAPN_PROGRESS names a file descriptor, writes the line there."""
     at = os.environ.get("CAPN_PROGRESS")
     with os.fdopen(os.dup(int(at)), "w") if at else os.fdopen(os.dup(1), "w") as out:
         print(line, file=out, flush=True)
@@ -92,7 +92,8 @@ def minutes(since):
 
 
 class Run:
-    """A run of `rt ci` in a folder. Its output goes to a file. It reports each crate that is done."""
+    """A run of `rt ci` in a folder. The output of `rt ci` goes into a file. The run prints a line when a crate is
+    done."""
 
     DONE = re.compile(r"^rt: (\w+)(: its tests are)? (proved|is kept|NOT PROVED)")
     TRIES = re.compile(r"^rt: (\w+): trying its must-fail edits \((\d+)\)")
@@ -102,7 +103,7 @@ class Run:
         self.done, self.since, self.lines, self.after = 0, since or time.time(), [], []
 
     def when(self, names, call):
-        """Calls this function once, as soon as all these crates are proved."""
+        """Registers a function, which is called once when all the given crates are proved."""
         self.after.append((set(names), call))
 
     def look(self, line):
@@ -125,7 +126,7 @@ class Run:
             told(f"  {tries[1]}: {tries[2]} edits are tried, {minutes(self.since)}")
 
     def run(self, *words, env=None):
-        """Runs `rt ci` with these arguments, and returns whether it passed."""
+        """Runs `rt ci` with the given arguments, and returns whether it succeeded."""
         how = {"stdin": subprocess.DEVNULL, "stdout": subprocess.PIPE, "stderr": subprocess.STDOUT}
         os.makedirs(os.path.dirname(self.log), exist_ok=True)
         with open(self.log, "w", encoding="utf-8") as log:
@@ -138,7 +139,7 @@ class Run:
             return ran.wait() == 0
 
     def failures(self):
-        """Returns the prover's lines on each crate that isn't proved, and the last lines of `rt ci`."""
+        """Returns the prover's output for each crate that isn't proved, and the last lines of `rt ci`."""
         text = "\n".join(self.lines)
         lines = r"^== \w+(?:: its tests)?\n(?:(?!^== ).*\n)*?^rt: \w+(?:: its tests are)? NOT PROVED.*$"
         parts = re.findall(lines, text, re.M)
@@ -152,14 +153,14 @@ def room():
 
 
 def kit():
-    """Returns the folder of the kit."""
+    """Returns the folder of the installed Rattle toolchain."""
     said = subprocess.run(["rt", "doc"], stdout=subprocess.PIPE, text=True, check=True).stdout
     return os.path.dirname(said.strip())
 
 
 def library_started(top, jobs):
-    """Starts the command that proves the library for C and builds its archive. Returns the running command. The command
-    uses the libraries that a run left in the folders out/ of the crates below `top`."""
+    """Starts the command that proves the library for C and builds its archive, and returns the running command. It uses
+    the compiled libraries in the folders out/ of the crates below `top`, which an earlier run left there."""
     kit_folder, folder = kit(), os.path.join(TOP, "crates", LIBRARY)
     words = ["-L", f"dependency={kit_folder}/rlibs"]
     for it in sorted(glob.glob(os.path.join(top, "crates", "*", "out", "rlib"))):
@@ -180,7 +181,7 @@ def library_started(top, jobs):
 
 
 def is_laid_out(name):
-    """Returns whether the files of a crate are laid out as `rt fmt` does it."""
+    """Returns whether the files of a crate have the layout that `rt fmt` gives them."""
     kinds = (f"{part}/**/*.{kind}" for part in ("src", "specs", "proofs") for kind in ("rt", "antt"))
     folder = os.path.join(TOP, "crates", name)
     files = [it for kind in kinds for it in glob.glob(os.path.join(folder, kind), recursive=True)]
@@ -189,7 +190,7 @@ def is_laid_out(name):
 
 
 def ended(call):
-    """Runs a script and exits with its status. If the script failed, prints why."""
+    """Runs a function, and exits with the status that it returns. If the function raises a Stop, prints why."""
     try:
         sys.exit(call())
     except Stop as why:

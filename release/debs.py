@@ -1,5 +1,5 @@
-"""The Debian packages of a release. It lists the staged files that go into each package, and writes their control
-files."""
+"""Makes the Debian packages of a release. It lists the staged files that go into each package, and writes the control
+files of the packages."""
 
 import datetime
 import glob
@@ -17,11 +17,11 @@ LIBRARIES = "/usr/lib/x86_64-linux-gnu"
 
 
 class Debs:
-    """The methods that make Debian packages. The class that uses them needs a folder `work`, a time `seconds`, a text
-    `proved`, a `debian_version` and a list `made`."""
+    """A mixin with the methods that make Debian packages. The class that uses it needs a folder `work`, a time
+    `seconds`, a text `proved`, a `debian_version` and a list `made`."""
 
     def debs(self, has_wheel):
-        """Makes the Debian packages. Each has a part of the staged files, and control files of its own."""
+        """Makes all Debian packages. Each package has some of the staged files, and its own control files."""
         staged = self.staged("staged", "/usr", LIBRARIES)
         take = {
             "capn": ["usr/bin", "usr/share/man/man1", "usr/share/bash-completion", "usr/share/zsh", "usr/share/fish",
@@ -83,7 +83,8 @@ class Debs:
             with open(overrides, encoding="utf-8") as file:
                 text = file.read()
             if not self.proved:
-                # leaves out an override that is right only for a release, and not for a version in development
+                # Leaves out an override that is right only for a released version, and not for a version in
+                # development.
                 text = re.sub(r"#.*\n.*initial-upload.*\n", "", text)
             write(os.path.join(folder, "usr/share/lintian/overrides", package), text)
         control = os.path.join(folder, "DEBIAN")
@@ -123,8 +124,8 @@ class Debs:
             return re.search(rf"^{name}: (.*)$", file.read(), re.M)[1]
 
     def needs(self, package, folder):
-        """Returns the dependencies that dpkg-shlibdeps finds for the files of a package. Also writes the list of
-        symbols."""
+        """Returns the dependencies that dpkg-shlibdeps finds for the files of a package. Also writes the package's list
+        of symbols."""
         found = [os.path.join(folder, it) for it in packing.paths_of(folder)
                  if re.search(r"usr/bin/capn$|\.so(\.1)?$", it) and not os.path.islink(os.path.join(folder, it))]
         if not found:

@@ -1,4 +1,4 @@
-"""Makes the list of components of a release from what NOTICE says on each component."""
+"""Makes the list of software components of a release. The data about each component comes from NOTICE."""
 
 import datetime
 import json
@@ -10,8 +10,8 @@ from packing import VERSION
 
 
 def listed(made, seconds, commit, tree):
-    """Returns the list of components of these files in the SPDX 2.3 format. The list names no concluded licence for a
-    file, because some components that are linked into the files state no licence."""
+    """Returns the list of software components of the given files in the SPDX 2.3 format. The list gives no concluded
+    licence for a file, because some components in the files have no stated licence."""
     paths = {os.path.basename(it): it for it in made}
     day = datetime.datetime.fromtimestamp(seconds, datetime.timezone.utc)
     packages, relations, texts = [], [], {}

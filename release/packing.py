@@ -1,4 +1,5 @@
-"""Shared code of the release scripts: names, tools, and archives that have the same bytes wherever they are made."""
+"""Shared code of the release scripts: names, tools, and functions that write archives with the same bytes on each
+machine."""
 
 import gzip
 import hashlib
@@ -15,10 +16,10 @@ import zlib
 TOP = os.path.abspath(os.path.join(os.path.dirname(os.path.abspath(__file__)), ".."))
 with open(os.path.join(TOP, "VERSION"), encoding="utf-8") as _file:
     VERSION = _file.read().strip()
-# The version as packages for Python write it, by PEP 440, and as packages for Debian write it. In both, 1.1.0-dev sorts
-# before 1.1.0.
+# The version in the notation of Python packages (PEP 440), and in the notation of Debian packages. In both notations,
+# the version 1.1.0-dev sorts before 1.1.0.
 VERSION_OF_PYTHON, VERSION_OF_DEBIAN = VERSION.replace("-dev", ".dev0"), VERSION.replace("-dev", "~dev")
-# The built files that are packed, under their names in PROVED.
+# The built files that are packed, with their names in the file PROVED.
 BUILT = {
     "program": os.path.join(TOP, "crates", "capn", "out", "capn"),
     "libcapn.a": os.path.join(TOP, "build", "libcapn.a"),
@@ -28,11 +29,11 @@ PROVED = os.path.join(TOP, "build", "PROVED")
 
 
 class Stop(Exception):
-    """The reason why a release can't be made, or why a file isn't what it claims to be."""
+    """An exception that says why a release can't be made, or why a released file isn't what it claims to be."""
 
 
 def said(*words, cwd=TOP, env=None, text=True):
-    """Returns the output of a command. If the command fails, the error has its output."""
+    """Runs a command, and returns its output. If the command fails, the exception has the output."""
     try:
         ran = subprocess.run(words, cwd=cwd, env=env, stdout=subprocess.PIPE, stderr=subprocess.PIPE, check=False)
     except FileNotFoundError:
@@ -44,7 +45,7 @@ def said(*words, cwd=TOP, env=None, text=True):
 
 
 def write(path, text, mode=0o644):
-    """Writes text or bytes into a file. It makes the folder if it doesn't exist."""
+    """Writes text or bytes into a file, and makes the file's folder if it doesn't exist."""
     os.makedirs(os.path.dirname(path), exist_ok=True)
     with open(path, "wb") as file:
         file.write(text if isinstance(text, bytes) else text.encode())
@@ -52,13 +53,13 @@ def write(path, text, mode=0o644):
 
 
 def sum_of(path):
-    """Returns the SHA-256 of a file."""
+    """Returns the SHA-256 hash of a file."""
     with open(path, "rb") as file:
         return hashlib.sha256(file.read()).hexdigest()
 
 
 def commit_of(top=TOP):
-    """Returns the commit of a clone, its tree, its time in seconds, and whether the clone has no changes."""
+    """Returns the current commit of a clone, its tree, its time in seconds, and whether the clone has no changes."""
     try:
         commit, tree, seconds = said("git", "show", "-s", "--format=%H %T %ct", "HEAD", cwd=top).split()
         return commit, tree, int(seconds), not said("git", "status", "--porcelain", cwd=top).strip()
@@ -67,8 +68,8 @@ def commit_of(top=TOP):
 
 
 def proof(commit, tree, is_clean):
-    """Returns the text of PROVED that the whole run wrote for this tree and these files. Fails if the whole run wrote
-    no PROVED for them."""
+    """Returns the text of the file PROVED. Fails unless `make test-all` wrote PROVED for this tree and these built
+    files."""
     if not os.path.exists(PROVED):
         raise Stop("the whole run has not passed here: make test-all")
     with open(PROVED, encoding="utf-8") as file:
@@ -85,18 +86,19 @@ def proof(commit, tree, is_clean):
 
 
 def installed(folder, prefix, libraries, *words):
-    """Runs `make install` and `make install-library` into a folder, and returns the folder. Also passes these words to
+    """Runs `make install` and `make install-library` into a folder, and returns the folder. Passes the given words to
     make."""
     words = [f"DESTDIR={folder}", f"PREFIX={prefix}", f"LIBDIR={libraries}", *words]
-    # Removes the options of a make that runs this script, such as a prefix. The make below must not get these options.
+    # Removes the options of the `make` that runs this script, such as a prefix. The `make` that this script starts must
+    # not get them.
     env = {key: value for key, value in os.environ.items() if not key.startswith("MAKE") and key != "MFLAGS"}
     said("make", "--no-print-directory", "install", "install-library", *words, env=env)
     return folder
 
 
 def sources(folder):
-    """Copies the repository's files that the archive has besides its pages: the Rust crate, the Go module, and the
-    examples in C. Tests that need a clone are left out."""
+    """Copies the files of the repository that the archive has besides its pages: the Rust crate, the Go module, and the
+    examples in C. Leaves out tests that need a clone."""
     left_out = shutil.ignore_patterns(".gitignore", "target", "reference", "test", "*_test.go", "__pycache__")
     for name in ("rust", "go", "c/examples"):
         shutil.copytree(os.path.join(TOP, name), os.path.join(folder, name), ignore=left_out)
@@ -111,7 +113,7 @@ def unpacked(path, folder):
 
 
 def settle(folder, seconds):
-    """Gives each file of a folder the mode and the time that it has in every release."""
+    """Sets the mode and the time of each file in a folder to the values that they have in every release."""
     for at, folders, names in os.walk(folder, topdown=False):
         for name in names + folders:
             path = os.path.join(at, name)
@@ -124,7 +126,7 @@ def settle(folder, seconds):
 
 
 def paths_of(folder):
-    """Returns the paths below a folder, sorted. A folder comes before the paths below it."""
+    """Returns the sorted paths below a folder. A folder comes before the paths inside it."""
     found = []
     for at, folders, names in os.walk(folder):
         found += [os.path.relpath(os.path.join(at, name), folder) for name in folders + names]
@@ -132,8 +134,8 @@ def paths_of(folder):
 
 
 def write_tar(folder, path, seconds):
-    """Packs a folder whose files already have their modes and times. The files are in the order of their names, and
-    belong to root."""
+    """Packs a folder whose files already have the right modes and times. The files are sorted by name, and belong to
+    root."""
     whole = io.BytesIO()
     with tarfile.open(fileobj=whole, mode="w", format=tarfile.GNU_FORMAT) as tar:
         for name in paths_of(folder):
@@ -151,7 +153,7 @@ def write_tar(folder, path, seconds):
 
 
 def write_zip(folder, names, path, seconds):
-    """Packs files of a folder in this order, all with the same time and mode."""
+    """Packs files of a folder in the given order. All files get the same time and mode."""
     stamp = time.gmtime(max(seconds, 315532800))[:6]
     with zipfile.ZipFile(path, "w", zipfile.ZIP_DEFLATED, compresslevel=9) as whole:
         for name in names:
@@ -164,7 +166,7 @@ def write_zip(folder, names, path, seconds):
 
 
 def proved_in(path):
-    """Returns the text of the PROVED inside a released file, or None."""
+    """Returns the text of the file PROVED that is inside a released file. Returns None if it isn't there."""
     try:
         if path.endswith(".tar.gz"):
             with tarfile.open(path) as tar:
@@ -184,12 +186,13 @@ def proved_in(path):
 
 
 def claims_of(text):
-    """Returns the head lines and the sums of a PROVED, by the first word of each line."""
+    """Returns the head lines and the hashes in the text of PROVED, as a dictionary. A key is the beginning of a
+    line."""
     return dict(re.findall(r"^(commit|tree|toolchain|sha256 \S+) (.+)$", text, re.M))
 
 
 def components():
-    """Yields the fields of each component that NOTICE names."""
+    """Yields the fields of each software component that NOTICE names."""
     with open(os.path.join(TOP, "NOTICE"), encoding="utf-8") as file:
         text = file.read()
     for block in re.findall(r"^Component: .*(?:\n(?!\n).*)*", text, re.M):

@@ -1,6 +1,6 @@
 #!/usr/bin/env python3
-"""Runs every `sh` and `bash` block of docs/GUIDE.md in order. Each block has a shell of its own, and all run in one
-folder.
+"""Runs every `sh` and `bash` block of docs/GUIDE.md in order. Each block runs in a new shell, and all blocks run in the
+same folder.
 
 If a `text` block follows, the output must be that block. CAPN names the program. The arguments name shells, and each
 installed shell among them is used. The script prints which block is left out because a tool is missing.
@@ -21,8 +21,8 @@ BLOCK = re.compile(r"^```(sh|bash|text)\n(.*?)^```$", re.M | re.S)
 
 
 def pairs(page):
-    """Yields each block with its language, and with the output that the page shows. If the page shows no output, it is
-    None."""
+    """Yields the language and the text of each code block of a page, and the output that the page shows for it. The
+    output is None if the page shows no output."""
     found = BLOCK.findall(page)
     for at, (language, block) in enumerate(found):
         if language != "text":
@@ -31,7 +31,8 @@ def pairs(page):
 
 
 def tried(shell, capn):
-    """Returns how many blocks ran, and how many of these printed another output than the page shows."""
+    """Runs the code blocks of docs/GUIDE.md. Returns how many blocks ran, and how many blocks printed another output
+    than the page shows or failed."""
     ran = wrong = 0
     with tempfile.TemporaryDirectory() as folder:
         here = Path(folder)
@@ -65,8 +66,8 @@ def tried(shell, capn):
 
 
 def main():
-    # Removes CAPN from the environment. Then the scripts of contrib/ run the program of the search path, as they do for
-    # a reader of the page.
+    # Removes the variable CAPN from the environment. The scripts in contrib/ then run the `capn` on the search path, as
+    # they do for a reader of docs/GUIDE.md.
     capn = os.environ.pop("CAPN", "") or str(TOP / "crates" / "capn" / "out" / "capn")
     failed = 0
     for shell in filter(shutil.which, sys.argv[1:] or ["sh"]):

@@ -1,12 +1,13 @@
-/* Calls the functions of the examples of docs/C.md. It is linked with the blocks of the page, each compiled alone.
+/* Calls the functions of the examples in docs/C.md. Each code block of that page is compiled alone, and linked with this
+ * program.
  *
- *     hostile CALL [DEPTH] < MESSAGE   calls one function on standard input, with this limit on depth
- *     hostile sign KEY < MESSAGE       writes a signature, if it was compiled with -DSIGNS
+ *     hostile CALL [DEPTH] < MESSAGE   calls one function on standard input, with this nesting limit
+ *     hostile sign KEY < MESSAGE       writes a signature, if this program was compiled with -DSIGNS
  *     hostile verify KEY SIGNATURE < MESSAGE
  *     hostile all ROUNDS FILE..        calls all functions on each file and on changed copies of it, and compares
  *                                      some results
  *
- * Each message lies in a block of its own, so that a sanitizer detects a read past the end. */
+ * Each message has its own block of memory, so that a sanitizer detects a read past its end. */
 #include <capn.h>
 #include <capn_fields.h>
 #include <stdio.h>
@@ -40,7 +41,7 @@ static uint32_t draw(void) {
     return (uint32_t)(seed >> 11);
 }
 
-/* Calls the example of lists on the root of a message. */
+/* Calls `print_lists` of docs/C.md on the root of a message. */
 static int lists_of(const uint8_t *bytes, size_t size, const capn_limits *limits) {
     size_t count;
     if (capn_count_entries(CAPN_STREAM, bytes, size, limits, &count, NULL) != CAPN_OK) return 0;
@@ -52,7 +53,7 @@ static int lists_of(const uint8_t *bytes, size_t size, const capn_limits *limits
     return is_read;
 }
 
-/* The results of the calls for one message have to agree. */
+/* Calls all functions on one message, and fails if their results don't agree. */
 static void call_all(const uint8_t *given, size_t size, const capn_limits *limits) {
     uint8_t *bytes = malloc(size ? size : 1);
     memcpy(bytes, given, size);
@@ -167,7 +168,7 @@ int main(int count, char **words) {
         told = canonical_into(bytes, size, &limits, out, sizeof out, &length);
         printf("%s %zu\n", capn_status_name(told), length);
     } else if (!strcmp(doing, "is_canonical")) printf("%d\n", is_canonical(bytes, size, &limits));
-    else if (!strcmp(doing, "compare")) { /* compares the first message of a stream with the rest */
+    else if (!strcmp(doing, "compare")) { /* compares the first message of a stream with the others */
         capn_report report;
         if (capn_first(bytes, size, &limits, &report) != CAPN_OK) fail("no first message");
         compare(bytes, report.length, bytes + report.length, size - report.length, &limits);

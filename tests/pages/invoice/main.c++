@@ -18,7 +18,7 @@ static kj::Array<capnp::word> words_of_file(const char *name) {
     return words;
 }
 
-/* Returns whether each field can be read once within these limits. */
+/* Returns whether a reader with the given limits can read each field of an invoice once. */
 static bool is_read(kj::ArrayPtr<const capnp::word> message, std::uint64_t words, int levels) try {
     capnp::FlatArrayMessageReader reader(message, {words, levels});
     const Invoice::Reader invoice = reader.getRoot<Invoice>();
@@ -28,7 +28,7 @@ static bool is_read(kj::ArrayPtr<const capnp::word> message, std::uint64_t words
 } catch (const kj::Exception &) {
     return false;
 }
-/* Returns the least number below `most` for which `holds` is true. If none exists, returns `most`. */
+/* Returns the least number below `most` for which `holds` returns true. Returns `most` if there is no such number. */
 template <class Holds> static int least(int most, Holds holds) {
     int n = 0;
     while (n < most && !holds(n)) n++;
