@@ -1,5 +1,5 @@
-/* Calls the functions of the examples in docs/C.md. Each code block of that page is compiled alone, and linked with this
- * program.
+/* Calls the functions of the examples in docs/C.md. Each code block of that page is compiled alone, and linked with
+ * this program.
  *
  *     hostile CALL [DEPTH] < MESSAGE   calls one function on standard input, with this nesting limit
  *     hostile sign KEY < MESSAGE       writes a signature, if this program was compiled with -DSIGNS
