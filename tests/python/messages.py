@@ -44,7 +44,8 @@ def short(words, least=0):
 
 
 def trimmed(value):
-    """Returns an equal value without the zero words and null pointers that canonical bytes leave out."""
+    """Returns a value that is equal to the given value, but lacks the zero words and null pointers that canonical bytes
+    leave out."""
     if value is None or value[0] == "list":
         return value
     if value[0] == "pointers":
