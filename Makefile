@@ -61,7 +61,7 @@ run: program
 # fails.
 PAGE_LINES := .ci/lines .ci/docs .ci/borders .ci/cited .ci/toolchain .ci/version .ci/lists .ci/readings \
 	.ci/counts .ci/places tests/named release/completions tests/pages/touched tests/pages/words tests/cases \
-	release/symbols release/manual release/links tests/release/steps
+	release/symbols release/manual release/links tests/release/steps tests/release/needs
 BUILT_LINES := release/recursion tests/program/statuses tests/program/full-disk tests/program/failures \
 	tests/program/allocations tests/vectors .ci/library release/installs release/glibc
 
@@ -111,7 +111,7 @@ bench:
 # - The lines of docs/DIFFERENCES.md and the table of hostile inputs are tried.
 # - If make runs as root, all of this and the languages over the library also run in a root of Debian 13.
 # The tests use the program that the gate builds, or an installed one: make interop CAPN=/usr/local/bin/capn.
-interop: $(if $(CAPN),,program library)
+interop: $(if $(CAPN),,beside)
 	./tests/c/agree
 	./tests/c/watched
 	./tests/c/sanitized
@@ -136,7 +136,7 @@ interop: $(if $(CAPN),,program library)
 
 # Proves the library for C: the archive of capn_c, and the files that are made from it.
 library:
-	@.ci/needs run
+	@.ci/needs library
 	@.ci/prove capn_c
 	@$(MAKE) --no-print-directory linked
 
@@ -145,7 +145,7 @@ library:
 # of crates that wait for one another is capn_words, value, target, walk, layout, canon, serve, archive, orders, tool
 # and capn.
 beside:
-	@.ci/needs run
+	@.ci/needs library
 	@.ci/prove capn capn_c
 	@$(MAKE) --no-print-directory linked
 
