@@ -196,10 +196,16 @@ public:
      * 0. */
     std::uint64_t number() const noexcept { return number_; }
     std::uint64_t offset() const noexcept { return offset_; }
-    /* The text that the program prints, with the place. */
-    std::string text() const {
+    /* What the status means in a few words, such as "an object lies outside of its segment". */
+    const char *meaning() const noexcept {
         if (status_ == read_failed) return "the function of a reader failed";
         if (status_ == read_overrun) return "the function of a reader returned more bytes than it was asked for";
+        return capn_status_text(status_);
+    }
+    /* If the message is at fault, the text that the command `capn` prints after `capn: `, such as
+     * "Range at 0:0, paid 0, visits 1"; in a stream, "message 2 at 16: " comes before it. Otherwise the meaning. */
+    std::string text() const {
+        if (status_ == read_failed || status_ == read_overrun) return meaning();
         char room[160];
         const std::size_t length = capn_refusal_text(status_, &report_, room, sizeof room);
         std::string out(room, std::min(length, sizeof room - 1));
@@ -208,8 +214,8 @@ public:
         return "message " + std::to_string(number_) + " at " + std::to_string(offset_) + ": " + out;
     }
 
-    /* The same error, of a message in a stream; of one of two messages; and of words alone, as `pack` takes them, for
-     * which the program names no form. */
+    /* The same error with more about the message: its number and offset in a stream; which of two messages it is; and
+     * that it is the words that `pack` takes, so that the text doesn't begin with the form "bare: ". */
     error in_stream(std::uint64_t number, std::uint64_t offset) const noexcept {
         error out = *this;
         out.number_ = number;
@@ -235,13 +241,13 @@ private:
     bool is_of_words_ = false;
 };
 
-/* A message is rejected. `what()` is the text that the program prints. */
+/* A message is rejected. `what()` is the text of the error, as `error::text` has it. */
 class refusal : public std::runtime_error {
 public:
     explicit refusal(const error &why) : std::runtime_error(why.text()), error_(why) {}
     refusal(capn_status status, const capn_report &report, const std::string &where = {})
         : refusal(status, report, where, text(status, report)) {}
-    /* With another text than that of the status. */
+    /* `what()` is `where` and then `text`, instead of the text of the error. */
     refusal(capn_status status, const capn_report &report, const std::string &where, const std::string &text)
         : std::runtime_error(where + text), error_(status, report) {}
     /* Of one of two messages. */
@@ -252,12 +258,13 @@ public:
     capn_status status() const noexcept { return error_.status(); }
     const capn_report &report() const noexcept { return error_.report(); }
     const char *name() const noexcept { return error_.name(); }
+    const char *meaning() const noexcept { return error_.meaning(); }
     std::uint32_t which() const noexcept { return error_.which(); }
     std::uint64_t number() const noexcept { return error_.number(); }
     std::uint64_t offset() const noexcept { return error_.offset(); }
     const capn::error &error() const noexcept { return error_; }
 
-    /* The text that the program prints for a status, with its place. */
+    /* The text of the error that a status and its report describe. */
     static std::string text(capn_status status, const capn_report &report) {
         return capn::error(status, report).text();
     }
@@ -431,13 +438,12 @@ struct checked {
     std::uint32_t visits;
 };
 
-/* How the dump of a message is written: lines, the same with printable bytes between quotes, one line of JSON, or the
- * same with each text as a text, in UTF-8. */
+/* How the dump of a message is written. */
 enum class style : std::uint32_t {
-    lines = CAPN_STYLE_LINES,
-    text = CAPN_STYLE_TEXT,
-    json = CAPN_STYLE_JSON,
-    json_text = CAPN_STYLE_JSON_TEXT
+    lines = CAPN_STYLE_LINES,        /* lines, with lists of bytes in hexadecimal */
+    text = CAPN_STYLE_TEXT,          /* the same, but with lists of printable bytes in quotes */
+    json = CAPN_STYLE_JSON,          /* one line of JSON */
+    json_text = CAPN_STYLE_JSON_TEXT /* the same, but with each UTF-8 Text as a string */
 };
 
 /* A path: the numbers that lead from the root to a pointer, as `capn show --at` takes them. */

@@ -124,6 +124,10 @@ func reported(r C.capn_report) report {
 
 func callVersion() string { return C.GoString(C.capn_version()) }
 
+func callStatusText(status uint32) string {
+	return C.GoString(C.capn_status_text(C.capn_status(status)))
+}
+
 func callCheck(form Form, m []byte, l Limits) (uint32, report) {
 	told := C.told_check(C.uint32_t(form), start(m), C.size_t(len(m)), laidOut(l))
 	return uint32(told.status), reported(told.report)

@@ -418,6 +418,12 @@ func TestHeader(t *testing.T) {
 		if number := strconv.Itoa(int(kind)); !strings.HasPrefix(string(header)[at+len(line):], number) {
 			t.Errorf("%s is not %s", name, number)
 		}
+		if meaning := kind.Meaning(); meaning == "" || meaning == Kind(0xffff).Meaning() {
+			t.Errorf("%s means %q", name, meaning)
+		}
+	}
+	if meaning := ErrRange.Meaning(); meaning != "an object lies outside of its segment" {
+		t.Error(meaning)
 	}
 }
 

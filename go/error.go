@@ -133,6 +133,10 @@ func (k Kind) String() string {
 
 func (k Kind) Error() string { return "capn: " + k.String() }
 
+// Meaning is what a kind means in a few words, as "an object lies outside of its segment". It is empty if the package
+// was built without the library.
+func (k Kind) Meaning() string { return callStatusText(uint32(k)) }
+
 func (k Kind) isOfWalk() bool { return k >= ErrNoRoot && k <= ErrOverBudget }
 
 // Error is why a message is rejected: it is invalid, or over a limit.

@@ -4,6 +4,8 @@ package capn
 
 func callVersion() string { return "" }
 
+func callStatusText(uint32) string { return "" }
+
 func callCheck(Form, []byte, Limits) (uint32, report) { return unsupported, report{} }
 
 func callCanonical(Form, []byte, Limits, []byte) (uint32, report) { return unsupported, report{} }

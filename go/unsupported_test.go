@@ -55,7 +55,7 @@ func TestUnsupported(t *testing.T) {
 			t.Errorf("call %d: %v", i, err)
 		}
 	}
-	if Version() != "" {
-		t.Error(Version())
+	if Version() != "" || ErrRange.Meaning() != "" {
+		t.Error(Version(), ErrRange.Meaning())
 	}
 }

@@ -105,6 +105,7 @@ DECLARED = """
 
     size_t capn_refusal_text(capn_status status, const capn_report *report, char *out, size_t room);
     const char *capn_status_name(capn_status status);
+    const char *capn_status_text(capn_status status);
 
     typedef struct {
         uint32_t count;

@@ -1,7 +1,7 @@
 """Refusals of what was passed, with the program's texts."""
 from __future__ import annotations
 
-from functools import partial
+from functools import cache, partial
 from typing import Any, Callable
 
 from ._capn import ffi, lib
@@ -9,12 +9,13 @@ from ._stop import FIRST, LAST, Stop, kept, stop_of
 
 # Statuses from here on are refusals of what was passed.
 _FIRST_REFUSAL = 16
+_LAST_REFUSAL = 127
 
 
 class Refusal(ValueError):
     """A message is rejected: it is invalid, goes over a limit, or has a capability. The text is the program's.
 
-    - `name` is the name of the error, such as "Range" or "FrameCut".
+    - `name` is the name of the error, such as "Range" or "FrameCut", and `meaning` says in words what that is.
     - `place` is the segment and the word of the pointer that is wrong, or None if the error isn't about a pointer.
     - `paid` is the cost in words until then, and `visits` is how many pointers were followed; else both are 0.
     - `at` is the offset, count or index of an error that has one, or 0.
@@ -58,6 +59,11 @@ class Refusal(ValueError):
         the message at `offset` in a stream. None if the error isn't about a pointer, and for a message without a first
         word."""
         return self._found()[1]
+
+    @property
+    def meaning(self) -> str:
+        """What the error means, such as "an object lies outside of its segment"."""
+        return _meanings().get(self.name, "")
 
     @property
     def text(self) -> str:
@@ -127,6 +133,17 @@ def let_go(given: Any) -> None:
     """Lets go of what the library was given, where that is a buffer."""
     if type(given) is not bytes:
         ffi.release(given)
+
+
+@cache
+def _meanings() -> dict[str, str]:
+    """The name of each error, with what it means."""
+    found = {"TooManySlots": "the message has more pointers than `most_slots`"}
+    for status in range(_FIRST_REFUSAL, _LAST_REFUSAL + 1):
+        name = ffi.string(lib.capn_status_name(status)).decode()
+        if name != "Unknown":
+            found[name] = ffi.string(lib.capn_status_text(status)).decode()
+    return found
 
 
 def _text(status: int, report: Any) -> str:

@@ -302,6 +302,7 @@ static void refusals() {
     } catch (const capn::refusal &why) {
         want("its status", why.status() == CAPN_TOO_DEEP && why.report().visits == 65);
         want("its name", std::string(why.name()) == "TooDeep");
+        want("its meaning", std::string(why.meaning()) == "an object lies deeper than the limit");
     }
     want("no words", thrown<capn::refusal>([] { capn::pack(std::string(3, 'x')); }) == "NotWhole(3)");
     want("no bare words", thrown<capn::refusal>([] { capn::check(std::string(3, 'x'), capn::form::bare); })
@@ -422,7 +423,8 @@ static void readers() {
     capn::reader failed(failing);
     const auto why = failed.try_next();
     want("an expected", !why && why.error().status() == capn::read_failed && !why.error().is_refusal()
-                            && why.error().name() == std::string("ReadFailed"));
+                            && why.error().name() == std::string("ReadFailed")
+                            && why.error().meaning() == why.error().text());
 
     /* After a rejected message comes another message. Tests the number, the offset and the error of each. */
     const std::string mixed = one + hostile + one + hostile + cut;

@@ -110,9 +110,11 @@ class Values(unittest.TestCase):
         self.assertIsInstance(refusal, ValueError)
         self.assertEqual(str(refusal), "Range at 0:0, paid 0, visits 1")
         self.assertEqual((refusal.name, refusal.place), ("Range", (0, 0)))
+        self.assertEqual(refusal.meaning, "an object lies outside of its segment")
         self.assertEqual((refusal.paid, refusal.visits, refusal.at), (0, 1, 0))
         again = pickle.loads(pickle.dumps(refusal))
         self.assertEqual((type(again), again.args, again.place), (capn.Refusal, refusal.args, (0, 0)))
+        self.assertEqual((again.meaning, capn.Refusal("x", "Mine").meaning), (refusal.meaning, ""))
 
     def test_other_refusals(self):
         capability = bytes.fromhex("0000000000000100" "0300000000000000")
@@ -134,6 +136,7 @@ class Values(unittest.TestCase):
                     call()
                 refusal = caught.exception
                 self.assertEqual((refusal.name, refusal.at, str(refusal)), (name, at, text))
+                self.assertTrue(refusal.meaning, name)
                 self.assertEqual((refusal.place, refusal.paid, refusal.visits), (None, 0, 0))
 
     def test_names_and_texts_are_the_library_s(self):

@@ -394,6 +394,7 @@ class HowMany(unittest.TestCase):
                 capn.read(data, most_slots=slots - 1)
             refusal = caught.exception
             self.assertEqual((refusal.name, refusal.at), ("TooManySlots", slots))
+            self.assertEqual(refusal.meaning, "the message has more pointers than `most_slots`")
             self.assertEqual(str(refusal), f"too many slots: {slots}")
         self.assertRaises(ValueError, capn.read, data, most_slots=-1)
         self.assertRaises(TypeError, capn.read, data, most_slots=1.0)

@@ -440,6 +440,17 @@ pub(crate) fn survey_segments(segments: &[&[u8]], limits: &Limits) -> Result<cap
     Ok(figures)
 }
 
+/// What a status means.
+pub(crate) fn status_text(status: capn_status) -> &'static str {
+    // The text is a constant of the library, and a zero byte ends it.
+    let text: *const u8 = unsafe { capn_sys::capn_status_text(status) }.cast();
+    let mut length = 0;
+    while unsafe { *text.add(length) } != 0 {
+        length += 1;
+    }
+    core::str::from_utf8(unsafe { core::slice::from_raw_parts(text, length) }).unwrap_or_default()
+}
+
 /// The text that the program prints for a status, in the buffer that is passed.
 pub(crate) fn refusal_text<'a>(
     status: capn_status,

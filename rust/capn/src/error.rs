@@ -104,6 +104,15 @@ macro_rules! kinds {
                     Kind::Other(_) => "Other",
                 }
             }
+
+            /// What it means, in a few words.
+            ///
+            /// ```
+            /// assert_eq!(capn::Kind::Range.meaning(), "an object lies outside of its segment");
+            /// ```
+            pub fn meaning(self) -> &'static str {
+                call::status_text(self.status())
+            }
         }
     };
 }

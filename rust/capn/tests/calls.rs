@@ -272,6 +272,13 @@ fn errors_of_calls_have_the_texts_of_the_library() {
         let text = unsafe { CStr::from_ptr(capn_sys::capn_status_text(status)) };
         text.to_str().expect("ASCII").to_owned()
     };
+    for kind in [Kind::NotWhole, Kind::Range, Kind::Capability] {
+        assert_eq!(kind.meaning(), text(kind.status()));
+    }
+    assert_eq!(
+        Kind::TooDeep.meaning(),
+        "an object lies deeper than the limit"
+    );
     assert_eq!(Error::Memory.to_string(), "out of memory");
     assert_eq!(Error::Form.to_string(), text(capn_sys::CAPN_BAD_FORM));
     assert_eq!(Error::Style.to_string(), text(capn_sys::CAPN_BAD_STYLE));
