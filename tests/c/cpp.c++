@@ -1,6 +1,6 @@
-// Tests the calls of capn.hpp on messages that are written by hand.
+// Tests the calls of capn.hpp on hand-written messages.
 //
-// It tests results, errors, streams in chunks, fields with defaults, and the types that can be passed as bytes.
+// This file tests results, errors, streams in chunks, fields with defaults, and the types that can be passed as bytes.
 #include "capn.hpp"
 #include <array>
 #include <cstdio>
@@ -14,7 +14,7 @@
 #include <unistd.h>
 #include <vector>
 
-/* The size of the largest allocation of C++ so far. */
+/* The size of the largest allocation by `operator new` so far. */
 static std::size_t largest = 0;
 void *operator new(std::size_t size) {
     largest = std::max(largest, size);
@@ -41,7 +41,7 @@ template <class Thrown, class Call> static std::string thrown(Call call) {
     }
     return "nothing";
 }
-/* Returns the bytes of some words. */
+/* Returns the bytes of some 64-bit words, in little-endian order. */
 static std::string words(std::initializer_list<std::uint64_t> words) {
     std::string out;
     for (const std::uint64_t word : words)
@@ -82,7 +82,7 @@ static void answers() {
     want("show as text", shown(capn::style::text) == "bytes 3 \"hi\\0\"\nend\n");
     want("show as JSON", shown(capn::style::json) == "{\"bytes\":\"686900\"}\n");
     want("show as JSON with texts", shown(capn::style::json_text) == "{\"text\":\"hi\"}\n");
-    /* The call first tries a small buffer. This dump is longer than that buffer. */
+    /* capn::show first tries a small buffer. The dump of this message is longer than that buffer. */
     const std::string bits = words({1 | 1ull << 32 | 64000ull << 35}) + std::string(8000, '\xff');
     want("a longer text", capn::show(bits, capn::form::bare).size() == 64018);
     want("pack", digits(capn::pack(one)) == "1003100201050000");
@@ -90,8 +90,9 @@ static void answers() {
     want("unpack", capn::bytes(capn::unpack(packed)).chars() == one);
     want("packed", capn::canonical(packed, capn::form::packed) == capn::canonical(one));
     want("canonical words", capn::is_canonical_words(capn::canonical(one)) && !capn::is_canonical_words(one.substr(8)));
-    /* A message of one segment whose last word isn't zero. Read as a bare message, its segment table and its words are
-     * canonical. The message itself isn't canonical, since its struct has a zero word before a pointer. */
+    /* This message has one segment, and the last word of the segment isn't zero. If all bytes of the message are read
+     * as one segment without a segment table, they are canonical. The message itself isn't canonical, since its struct
+     * has a zero word before a pointer. */
     using capn::form;
     const capn::limits few(99, 2, 9);
     const std::string loose = framed(words({2ull << 32 | 1ull << 48, 5, 0, 1 | 0x22ull << 32, 0x636261}));
@@ -108,8 +109,8 @@ static void answers() {
     want("limits of words", capn::is_canonical_words(loose, {}) && thrown<capn::refusal>([&] {
                                 (void)capn::is_canonical_words(loose, few);
                             }) == "OverBudget at 0:0, paid 0, visits 1");
-    /* The deprecated call `is_canonical` without a form still works. It takes the bytes as the words of a single
-     * segment, without a table. */
+    /* The deprecated overload of `is_canonical` without a form still works. It takes the bytes as a single segment
+     * without a segment table. */
 #if defined(__GNUC__)
 #pragma GCC diagnostic push
 #pragma GCC diagnostic ignored "-Wdeprecated-declarations"
@@ -126,18 +127,19 @@ static void answers() {
         const std::string message = written == form::bare ? capability.substr(8) : capability;
         want("a capability", thrown<capn::refusal>([&] { capn::is_canonical(message, written); }) == "capability 7");
     }
-    /* An object with three pointers to it is written three times, so the result is longer than the message. */
+    /* Three pointers refer to one object, so the canonical bytes have three copies of the object. They are longer than
+     * the message. */
     const std::string shared = framed(words({3ull << 48, 8 | 1ull << 32, 4 | 1ull << 32, 1ull << 32, 7}));
     want("a longer answer", capn::canonical(shared).size() == 56 && shared.size() == 48);
-    /* Canonical bytes are a plain vector. Its capacity equals its length. */
+    /* capn::canonical returns a std::vector. Its capacity isn't much larger than its length. */
     static_assert(std::is_same_v<decltype(capn::canonical(one)), std::vector<std::byte>>);
     const std::string null_root = std::string("\0\0\0\0\0\0\2\0", 8) + std::string(1 << 20, '\0');
     const std::vector<std::byte> small = capn::canonical(null_root);
     want("no more room than needed", small.size() == 8 && small.capacity() < 128);
     want("no more of a packed one", capn::canonical(capn::pack(one), form::packed).capacity() < 128);
     want("no more of a text", capn::show(null_root).capacity() < 128);
-    /* A message that is over the limit is rejected before anything of its size is allocated. This message has 4 GiB.
-     * All its pages are the same page of zeros. */
+    /* If a message is over the limit, it is rejected before memory of its size is allocated. This message has 4 GiB.
+     * All its pages map the same page of zeros. */
     const std::size_t huge = std::size_t{1} << 32;
     void *const pages = mmap(nullptr, huge, PROT_READ, MAP_PRIVATE | MAP_ANONYMOUS | MAP_NORESERVE, -1, 0);
     want("pages", pages != MAP_FAILED);
@@ -149,7 +151,8 @@ static void answers() {
     }
     want("nothing large is allocated", largest < 1 << 20);
     munmap(pages, huge);
-    /* Passes words as bytes. The size in bytes must be eight times the number of words. */
+    /* Passes arrays of 64-bit words to calls that take bytes. The size in bytes must be eight times the number of
+     * words. */
     const std::vector<std::uint64_t> counted = {2ull << 32, 5, 0};
     want("the bytes of words", capn::as_bytes(counted).size() == 24
                                    && capn::check(capn::as_bytes(counted), form::bare).paid == 3);
@@ -192,14 +195,14 @@ static void pieces() {
     };
     want("the first one", which(loop, none) == "TooDeep0");
     want("the second one", which(two, loop) == "TooDeep1");
-    /* Segments are not copied if their lengths show that they are too long. */
+    /* If the lengths of the segments are over the limit, the segments are rejected before they are copied. */
     const capn_segment long_one[] = {{rest.data(), std::size_t{1} << 60}, {rest.data(), std::size_t{1} << 60}};
     want("too long", thrown<capn::refusal>([&] { capn::show(long_one); }).rfind("frame: TooManyWords", 0) == 0);
     want("too long for bytes", capn::segments(long_one).bytes_in_all() > 8ull << 28);
 }
 
-/* Canonical bytes are written into a buffer, with scratch that the caller passes. The messages have few segments, are
- * packed, or have many segments. */
+/* Writes canonical bytes into a buffer, with scratch memory from the caller. Some messages have few segments, some are
+ * packed, and some have many segments. */
 static void lent() {
     using capn::form;
     const std::string message = framed(words({1ull << 32, 5})), wanted(capn::bytes(capn::canonical(message)).chars());
@@ -225,8 +228,8 @@ static void lent() {
                        == CAPN_BAD_LIMITS);
 }
 
-/* Compares two messages. The two messages have the same value in different layouts, or they have different values, or
- * one message is rejected. */
+/* Compares pairs of messages. A pair has one value in two layouts, or has two values, or has a message that is
+ * rejected. */
 static void comparisons() {
     using capn::form;
     const std::string tight = framed(words({1ull << 32, 5})), other = framed(words({1ull << 32, 6}));
@@ -255,7 +258,8 @@ static void comparisons() {
                        == "a limit is out of its range");
 }
 
-/* Tests the path to an error, and the first difference from the canonical form of an accepted message. */
+/* Tests the path to the error of a rejected message. For an accepted message, tests the first difference from the
+ * canonical form. */
 static void ways() {
     using capn::form;
     /* The root is a struct whose pointer 1 refers to a list of two structs. The second of these structs has a pointer
@@ -348,7 +352,8 @@ static void streams() {
                           == "message 2 at 32: frame: Cut");
     want("the first of them", count == 1);
 
-    /* Reads from memory in chunks of each size. Every third call throws. */
+    /* The reader gets its bytes from a function that returns at most `most` bytes at once. Every third call of the
+     * function throws an exception. */
     for (std::size_t most = 1; most < 40; most++) {
         const std::string all = one + framed(words({0})) + one;
         std::size_t at = 0, calls = 0, got = 0;
@@ -381,11 +386,11 @@ static void streams() {
     want("the cut one", thrown<capn::refusal>([&] { reader.next(); }) == "message 2 at 32: frame: Cut");
 }
 
-/* A mistake of the reader's function isn't reported as an error of the message. No byte that the function didn't write
- * is read. */
+/* Tests readers whose function returns a wrong number. The reader doesn't report the mistake as an error of the
+ * message, and reads no byte that the function didn't write. */
 static void readers() {
-    /* The function's first call returns the segment table. Its second call returns too large a number, such as the -1
-     * of a system call that failed. */
+    /* On its first call, the function writes the segment table. On its second call, it returns a number that is too
+     * large, such as the -1 of a system call that failed. */
     const std::string all = one + one;
     for (const std::size_t wrong : {static_cast<std::size_t>(-1), std::size_t{25}, std::size_t{1} << 20}) {
         std::size_t at = 0, calls = 0;
@@ -401,7 +406,8 @@ static void readers() {
         const auto message = reader.next();
         want("nothing is lost", message && message->chars() == one && reader.next()->chars() == one && !reader.next());
     }
-    /* Reads a pipe without bytes. The function calls read(2) and doesn't test for errors. */
+    /* The pipe has only 8 bytes, and reading more fails. The function returns the result of read(2) without a test for
+     * -1. */
     int ends[2];
     want("a pipe", pipe(ends) == 0 && fcntl(ends[0], F_SETFL, O_NONBLOCK) == 0 && write(ends[1], one.data(), 8) == 8);
     capn::reader forgetful([&](std::byte *to, std::size_t most) {
@@ -409,7 +415,8 @@ static void readers() {
     });
     want("an error that was forgotten", thrown<capn::read_error>([&] { (void)forgetful.next(); })
                                             != "nothing");
-    /* The right ways to report an error of read(2): an exception, an optional and an expected. */
+    /* A function can report an error of read(2) in three ways: it throws an exception, or it returns an empty
+     * std::optional, or it returns the error in a capn::expected. */
     capn::reader careful([&](std::byte *to, std::size_t most) -> std::optional<std::size_t> {
         const ssize_t came = ::read(ends[0], to, most);
         return came < 0 ? std::nullopt : std::optional<std::size_t>(came);
@@ -426,7 +433,8 @@ static void readers() {
                             && why.error().name() == std::string("ReadFailed")
                             && why.error().meaning() == why.error().text());
 
-    /* After a rejected message comes another message. Tests the number, the offset and the error of each. */
+    /* Reads a stream in which other messages follow a rejected message. Tests the number and the offset of each
+     * message, and the error of each rejected message. */
     const std::string mixed = one + hostile + one + hostile + cut;
     const auto from = [&mixed](std::size_t most_at_once) {
         return [&mixed, most_at_once, at = std::size_t{0}](std::byte *to, std::size_t most) mutable {
@@ -485,7 +493,7 @@ static void readers() {
                           });
                       }) == "message 5 at 96: frame: Cut");
     want("all in memory", told == "1 0 good, 2 32 bad, 3 48 good, 4 80 bad, ");
-    /* An invalid table ends the stream. Each later call reports the same error. */
+    /* An invalid segment table ends the stream. Each later call of `next` reports the same error. */
     const std::string damaged = one + std::string(8, '\xff') + one;
     std::size_t at = 0;
     capn::reader ended([&](std::byte *to, std::size_t most) {
@@ -509,8 +517,8 @@ static void readers() {
     want("nothing of it is left", first.number() == 0 && first.offset() == 0);
 }
 
-/* Streams of packed messages. Each message is packed alone, or all are packed together, so that groups cross from one
- * message to the next. */
+/* Reads streams of packed messages. In one stream each message is packed alone. In the other stream all messages are
+ * packed together, so that a group of packed bytes crosses from one message to the next. */
 static void packed_streams() {
     const auto text = [](const std::string &message) { return std::string(capn::bytes(capn::pack(message)).chars()); };
     std::string lengthy = framed(words({1 | 1ull << 32 | 2400ull << 35}));
@@ -573,7 +581,8 @@ static void packed_streams() {
                 want("where", error.report().at < size && (whole == 0 || error.report().at >= ends[whole - 1]));
         }
     }
-    /* A few packed bytes unpack to many words. The reader unpacks no more than the message that was announced. */
+    /* A few packed bytes can unpack to many words. The reader unpacks no more words than the segment table
+     * announces. */
     std::string bomb = text(framed(words({0})));
     for (int i = 0; i < 4000; i++) bomb += std::string("\0\xff", 2);
     std::size_t at = 0, asked = 0;
@@ -606,8 +615,8 @@ static void packed_streams() {
                                                == "message 1 at 0: frame: TooManyWords(4)");
 }
 
-/* Reads a socket. The peer waits for a reply to each message. The reader must not wait once a message is complete, and
- * must not take bytes after the messages. */
+/* Reads messages from a socket whose peer waits for a reply to each message. The reader must not wait for more bytes
+ * once a message is complete. It must not take bytes that follow the last message. */
 static void sockets() {
     int ends[2];
     want("a socket", socketpair(AF_UNIX, SOCK_STREAM, 0, ends) == 0);
@@ -634,7 +643,7 @@ static void sockets() {
     close(ends[1]);
 }
 
-/* The compiler rejects programs that use bytes after their owner is gone. */
+/* Tests at compile time that a program can't use bytes after the object that owns them is destroyed. */
 template <class T, class = void> constexpr bool has_root = false;
 template <class T> constexpr bool has_root<T, std::void_t<decltype(std::declval<T>().root())>> = true;
 template <class T, class = void> constexpr bool is_indexed = false;
@@ -650,8 +659,8 @@ static_assert(is_indexed<std::span<const std::byte>>);
 #endif
 
 static void fields() {
-    /* A struct of a word and two pointers. Its fields are `x @0 :UInt64 = 7`, a text, and structs of a newer writer in
-     * place of numbers. */
+    /* The root is a struct with one data word and two pointers. Its fields are `x @0 :UInt64 = 7`, a text, and a list
+     * in which a newer writer has put structs in place of numbers. */
     const std::string message = framed(words({1ull << 32 | 2ull << 48, 5 ^ 7, 5 | 0x22ull << 32, 5 | 0x17ull << 32,
                                               0x636261, 8 | 1ull << 32, 3, 4}));
     const capn::index index = capn::index::of(message);
@@ -672,7 +681,8 @@ static void fields() {
     want("a packed one", thrown<std::invalid_argument>([&] { capn::index::of(one, capn::form::packed); })
                              == "the call doesn't take this form");
     want("a refused one", thrown<capn::refusal>([] { capn::index::of(cut); }) == "frame: Cut");
-    /* The index first tries a small array of entries. This message has more pointers than that array has entries. */
+    /* capn::index::of first tries a small array of entries. This message has more pointers than that array has
+     * entries. */
     std::string many = words({200ull << 48});
     for (int i = 0; i < 200; i++) many += words({0});
     std::string wide(8, '\0');
@@ -681,8 +691,9 @@ static void fields() {
     want("many slots", capn::index::of(whole).size() == 201);
 }
 
-/* Canonical bytes leave out a section that is zero in each struct of a list. A reader may read the list as numbers or
- * as pointers. The reader gets zeros and nulls, as from the original list. */
+/* If the data section or the pointer section is zero in every struct of a list, the canonical bytes leave this section
+ * out. A reader may read such a list as numbers or as pointers. It gets the same zeros or nulls as from the original
+ * list. */
 static void canonical_lists() {
     const auto all = [](const capn::numbers<std::uint16_t> &numbers) {
         return std::vector<std::uint16_t>(numbers.begin(), numbers.end());
@@ -702,9 +713,9 @@ static void canonical_lists() {
         for (const capn::record one : list.pointers()) count += one.slot(0).is_null();
         want("nulls", count == 2);
     }
-    /* A list of structs that have only pointers can be read as a list of numbers, which are all zero, or as a list of
-     * these pointers. A list of structs that have only words can be read as a list of these numbers, or as a list of
-     * nulls. */
+    /* A list of structs without data words can be read as a list of the structs' pointers. Read as a list of numbers,
+     * it has only zeros. A list of structs without pointers can be read as a list of numbers. Read as a list of
+     * pointers, it has only nulls. */
     const std::string pointed = framed(words({1ull << 48, 0x1700000001, 8 | 1ull << 48, 0, 3 | 9ull << 32}));
     const capn::index index = capn::index::of(pointed);
     const capn::rows rows = index.root().as_struct().slot(0).pointers();
@@ -715,13 +726,14 @@ static void canonical_lists() {
     want("the capability", last == 9);
     want("zeros beside pointers", all(index.root().as_struct().slot(0).list<std::uint16_t>())
                                       == std::vector<std::uint16_t>{0, 0});
-    /* Lists of numbers of another width are rejected. */
+    /* A list of numbers can't be read as numbers of another width. */
     const std::string bytes_of_it = framed(words({1ull << 48, 1 | 0x12ull << 32, 0x0201}));
     const capn::index other = capn::index::of(bytes_of_it);
     const capn::value data = other.root().as_struct().slot(0);
     want("bytes aren't 16 bits", !data.try_list<std::uint16_t>() && !data.try_pointers());
     want("no list", !other.root().try_list<std::uint8_t>() && !other.root().try_pointers());
-    /* If a field is wider than the element of an older list, reading the field returns its default. */
+    /* An older writer wrote a list of bytes, and the reader reads the list as structs. A field that is wider than a
+     * byte has its default value. */
     const std::string older = framed(words({1ull << 48, 1 | 0xaull << 32, 5}));
     const capn::index of_older = capn::index::of(older);
     std::uint16_t field = 0;
@@ -733,7 +745,7 @@ static void canonical_lists() {
     want("a wider field has its default", field == 7 && narrow == (5 ^ 7));
 }
 
-/* Lists and readers are ranges of the standard library. */
+/* Tests lists and readers as ranges of the C++ standard library. */
 static void ranges() {
     const std::string message = framed(words({2ull << 48, 5 | 0x23ull << 32, 5 | 0x17ull << 32, 0x0004000300020001,
                                               8 | 1ull << 32, 30, 40}));
@@ -748,7 +760,7 @@ static void ranges() {
     want("a default one", capn::numbers<int>().empty() && capn::rows().empty() && capn::value().is_null());
     const capn::numbers<std::uint16_t>::iterator singular{}, other{};
     want("iterators by default", singular == other && capn::rows::iterator() == capn::rows::iterator());
-    /* clang 14 can't compile the views of libstdc++ 12. */
+    /* clang 14 can't compile the views (std::views) of libstdc++ 12. */
 #if defined(__cpp_lib_ranges) && (!defined(__clang__) || __clang_major__ > 15)
     static_assert(std::ranges::random_access_range<capn::numbers<bool>> && std::ranges::view<capn::numbers<float>>);
     static_assert(std::ranges::sized_range<capn::numbers<int>> && std::ranges::borrowed_range<capn::numbers<int>>);
@@ -777,7 +789,7 @@ static void ranges() {
 #endif
 }
 
-/* An object that was moved from is empty. */
+/* An object is empty after it was moved from. */
 static void moves() {
     capn::index from = capn::index::of(one);
     const capn::index to = std::move(from);

@@ -1,4 +1,4 @@
-// Tests capn_kj.hpp on builders of the reference implementation.
+// Tests capn_kj.hpp on message builders of the reference implementation.
 //
 // For the segments of a builder, capn_kj.hpp has to return the canonical form that the reference implementation makes.
 //
@@ -64,7 +64,7 @@ void want(const char *what, bool is) {
 
 bool equal(capn::bytes a, capn::bytes b) { return std::equal(a.begin(), a.end(), b.begin(), b.end()); }
 
-/* Tests one builder. Returns true if the builder has several segments. */
+/* Tests the calls of capn_kj.hpp on one random message builder. Returns true if the builder has several segments. */
 bool try_one() {
     capnp::MallocMessageBuilder message(1 + below(40), below(4) ? capnp::AllocationStrategy::FIXED_SIZE
                                                                 : capnp::AllocationStrategy::GROW_HEURISTICALLY);
@@ -94,7 +94,7 @@ bool try_one() {
     return held.size() > 1;
 }
 
-/* A null segment may be between two others in an array of segments. The root leads to the last segment. */
+/* The second of these three segments is a null array. The root pointer is a far pointer to the third segment. */
 void try_null_segment() {
     const std::uint64_t first = 2 | 2ull << 32, last[] = {1ull << 32, 5};
     const auto of = [](const std::uint64_t *words, std::size_t count) {
@@ -111,7 +111,7 @@ void try_null_segment() {
     }
 }
 
-/* Tests the error for segments that no builder makes, and the text of this error. */
+/* Tests the error for segments that no message builder makes, and the text of this error. */
 void try_refused() {
     capnp::MallocMessageBuilder empty;
     try {

@@ -1,6 +1,6 @@
 // Tests the calls of capn.hpp that don't throw.
 //
-// Each call returns the value or the error. The test is also compiled without exceptions.
+// Each call returns the value or the error. This file is also compiled without exceptions.
 #include "capn.hpp"
 #include <cstdio>
 #include <cstring>
@@ -33,7 +33,7 @@ static const std::string hostile = framed(words({0x10000fffffffc}));
 static const std::string capability = framed(words({1ull << 48, 3 | 7ull << 32}));
 using capn::form;
 
-/* Returns the text of an error, or a text that stands for a value. */
+/* Returns the text of the error in a capn::expected. If the capn::expected has a value, returns "a value". */
 template <class T> static std::string text(const capn::expected<T> &of) { return of ? "a value" : of.error().text(); }
 
 static void values() {
@@ -70,7 +70,7 @@ static void values() {
     want("no difference", capn::try_departure(tight) && !*capn::try_departure(tight));
 }
 
-/* Tests each kind of error: of the message, of the limits, of memory, and of a reader. */
+/* Tests each kind of error: an invalid message, limits out of range, a failed allocation, and a failed read. */
 static void errors() {
     const auto deep = capn::try_check(hostile);
     want("a refusal", !deep && deep.error().is_refusal() && deep.error().status() == CAPN_TOO_DEEP
@@ -123,7 +123,8 @@ static void fields() {
     want("a capability", *root->slot(2).try_capability() == 7u && !root->slot(1).try_capability());
 }
 
-/* Reads a stream with a rejected message. The reader's functions return an expected and an optional. */
+/* Reads a stream that has a rejected message. The functions that read the bytes return a capn::expected and a
+ * std::optional. */
 static void streams() {
     const std::string all = one + hostile + tight + cut;
     std::size_t at = 0;

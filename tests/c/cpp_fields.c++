@@ -1,4 +1,4 @@
-// Reads the fields of fields.capnp by capn.hpp.
+// Reads the fields of fields.capnp with capn.hpp.
 //
 //     cpp_fields old | new   shows each message of a stream as fields.c++ shows it, read by one of its types
 //     cpp_fields lines       reads each pointer of each message of mixed.py as anything, with a line as fields.c has it
@@ -92,7 +92,7 @@ void show_message(capn::bytes message, bool is_new) {
     std::printf("\n");
 }
 
-// A sum of the numbers that are read from a pointer: FNV-1a over numbers of 64 bits instead of bytes.
+// A hash of the numbers that are read from a pointer. It is FNV-1a over 64-bit numbers instead of bytes.
 class sum {
 public:
     void add(std::uint64_t number) { sum_ = (sum_ ^ number) * 0x100000001b3; }
@@ -159,7 +159,7 @@ void show_lines(capn::value at) {
     show_part(at.try_struct(), [](sum &all, capn::record from) { all.add(from); });
     show_part(at.try_text("none"), [](sum &all, std::string_view text) { all.add(capn::bytes(text)); });
     show_part(at.try_data(), [](sum &all, capn::bytes data) { all.add(data); });
-    // A list whose elements have no size can only be read as a list of structs.
+    // capn.hpp reads a list of void elements only as a list of structs.
     const bool is_void = at.is_null() || at.kind() == capn::kind::voids || at.kind() == capn::kind::rows;
     if (is_void) show_part(at.try_structs(), [](sum &all, capn::rows list) { all.add(list.size()); });
     else std::printf(" -");
@@ -184,8 +184,8 @@ void show_lines(capn::value at) {
         }
 }
 
-// Shows the messages of mixed.py. Before each message stands its length. Each message is copied to memory of exactly
-// its length.
+// Prints the lines for the messages that mixed.py wrote. Each message comes after its length. The message is copied to
+// memory of exactly its length, so that a sanitizer detects a read past the end.
 void show_mixed(const std::string &all) {
     for (std::size_t from = 0; from + 4 <= all.size();) {
         std::uint32_t size;

@@ -1,7 +1,7 @@
 // Runs the programs of docs/CPP.md.
 //
-// Each block of the page is compiled alone and linked with this program. The first word of the command line says which
-// block runs. The block reads standard input.
+// Each code block of the page is compiled alone and linked with this program. The first argument of the program says
+// which block runs. The block reads standard input.
 //
 //     cpp_page check | field | explain | reason | canonical | valid | each | packed | signed DIGEST | compare FILE
 #include <capn.hpp>
@@ -29,7 +29,7 @@ std::string describe(capn::bytes message, const capn::limits &limits);
 #ifdef WITH_KJ
 capn::digest_bytes digest_of(capnp::MessageBuilder &message);
 
-/* The digest of a builder equals the digest of its bytes. */
+/* The digest of a message builder equals the digest of the builder's bytes. */
 static bool is_built() {
     capnp::MallocMessageBuilder builder;
     builder.initRoot<capnp::AnyPointer>().initAs<capnp::Data>(5);

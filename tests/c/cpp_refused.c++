@@ -1,9 +1,10 @@
-// Programs that must not compile with capn.hpp, and right programs that must compile.
+// The programs in this file test what capn.hpp lets a compiler reject. Some programs must not compile, and the right
+// programs must compile.
 //
-// Each number of CASE adds a program that would read bytes after their owner is gone, or that confuses two numbers. A
-// compiler has to reject this program. The compiler's error has to contain the word that stands before the colon in the
-// line of the case. Only clang warns about the cases of `dangling`. Without CASE, the file has only the right programs.
-// `tests/c/languages` compiles each case.
+// Each number of the macro CASE adds a wrong program. It would read bytes after the object that owns them is destroyed,
+// or it confuses two numbers. A compiler has to reject this program. The line of a case begins with a word and a colon,
+// and the compiler's error has to contain this word. Only clang warns about the cases of `dangling`. Without CASE, the
+// file has only the right programs. `tests/c/languages` compiles each case.
 #include "capn.hpp"
 #ifdef WITH_KJ
 #include "capn_kj.hpp"
@@ -17,7 +18,7 @@
 
 std::vector<std::byte> make_vector();
 std::string make_string();
-/* A type that contains its bytes, so that a copy has bytes of its own. */
+/* A packet stores its bytes in the object itself, so a copy of a packet has bytes of its own. */
 struct packet {
     std::byte held[64];
     std::size_t length;

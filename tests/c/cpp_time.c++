@@ -1,7 +1,7 @@
 // Compares the time of each call of capn.hpp with the time of the same call in C.
 //
 // cpp_time [MOST] fails if a call takes more than MOST times as long as the calls of capn.h that it makes. It compares
-// the shortest times of many rounds. In a round, the call and the calls of capn.h take turns.
+// the shortest times of many rounds. Each round runs the call of capn.hpp and the calls of capn.h, one after the other.
 #include "capn.hpp"
 #include <chrono>
 #include <cstdio>
@@ -20,8 +20,8 @@ template <class Call> double once(unsigned times, Call call) {
     return took.count() / times;
 }
 template <class C, class Plus> void beside(const char *name, std::size_t size, C c, Plus plus) {
-    /* The rounds are short, so most of them are not interrupted. More rounds are run while the times are above the
-     * limit. */
+    /* The rounds are short, so most of them run without an interruption. More rounds are run while the time of capn.hpp
+     * is above the limit. */
     const unsigned times = static_cast<unsigned>(1 + 200 / (1 + once(3, c) / 1000));
     double least = 1e18, least_plus = 1e18;
     for (int attempt = 0; attempt < 20 && (attempt == 0 || least_plus > most * least); attempt++)
@@ -33,8 +33,8 @@ template <class C, class Plus> void beside(const char *name, std::size_t size, C
     failed |= least_plus > most * least;
 }
 
-/* Returns a message of a list of this many structs, or of a list of bytes. Each struct has a word and a pointer to a
- * text of 8 bytes. */
+/* Returns a message whose root is a list of `rows` structs, or a list of `bytes` bytes if that number isn't 0. Each
+ * struct has a data word and a pointer to a text of 8 bytes. */
 std::vector<std::uint64_t> message_of(std::size_t rows, std::size_t bytes) {
     std::vector<std::uint64_t> words = {0};
     if (bytes) {

@@ -1,7 +1,7 @@
-// Makes the calls of standard input by capn.hpp, and writes the results.
+// Reads calls from standard input, makes them with capn.hpp, and writes the results.
 //
-// The results have the form of the stored answers, as vectors.c writes them. Each call on a stream is made on its
-// segments, too.
+// The results have the format of the expected answers, as vectors.c writes them. Each call on a stream is also made on
+// the stream's segments.
 #include "capn.hpp"
 #include <cstdio>
 #include <iostream>
@@ -32,7 +32,8 @@ capn::form form_of(const std::string &word) {
     return word == "packed" ? capn::form::packed : word == "bare" ? capn::form::bare : capn::form::stream;
 }
 
-/* Returns the text of an error without the place that for_each adds. Errors of packing and unpacking name no form. */
+/* Returns the text of an error as the expected answers have it. This text doesn't have the place that for_each adds.
+ * For errors of packing and unpacking, it doesn't name the form (`bare` or `packed`). */
 std::string refused(const capn::refusal &why, bool of_packing) {
     std::string text = capn::refusal(why.status(), why.report()).what();
     for (const std::string form : {"bare: ", "packed: "})
@@ -83,8 +84,8 @@ std::string checked(const capn::checked &it, const capn_figures &figures) {
     return "paid " + std::to_string(it.paid) + ", visits " + std::to_string(it.visits);
 }
 
-/* Returns the result for the bytes. If the bytes are a stream with a valid table, the call on the segments of the
- * stream has to return the same result. */
+/* Returns the result of a call on these bytes. If the bytes are a stream with a valid segment table, the same call on
+ * the stream's segments has to return the same result. */
 template <class Call> std::string both(capn::bytes message, capn::form form, const capn::limits &limits, Call call) {
     const std::string told = answered([&] { return call(message, form); });
     if (form != capn::form::stream) return told;

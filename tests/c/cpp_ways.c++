@@ -1,6 +1,7 @@
-// Prints paths to errors, and first differences from the canonical form, by capn.hpp.
+// Prints the paths to errors and the first differences from the canonical form that capn.hpp reports.
 //
-// It answers each call of standard input that has limits in the form of `ways answers`.
+// The program reads calls from standard input, and answers each call that has limits. The answers have the format of
+// `ways answers` (see ways.c).
 #include "capn.hpp"
 #include <cinttypes>
 #include <cstdio>

@@ -1,12 +1,12 @@
-/* Tests calls with one or more null pointers among limits, report and `which`. Each call must return, write and report
- * what it does with the default limits and with all pointers set. The inputs are the bytes at the end of each line of
- * standard input, in hexadecimal, read in each form. */
+/* Tests calls with null in place of the limits, the report or the output parameter `which`. Each call must return,
+ * write and report the same as with the default limits and with no null pointer. Each line of standard input ends with
+ * bytes in hexadecimal. The calls read these bytes in each form (stream, packed and bare). */
 #define TEST "defaults"
 #include "wanted.h"
 
 enum { ROOM = 1 << 12, ENTRIES = 64, WAY = 128 };
 
-/* The arguments and the outputs of a call. */
+/* The arguments of a call, and what the call writes. */
 struct given {
     uint32_t form;
     const uint8_t *bytes;
@@ -45,7 +45,7 @@ CALL(show, INPUT, CAPN_STYLE_TEXT, g->out.text, ROOM, g->report)
 CALL(refusal_way, INPUT, g->out.way, WAY, g->report)
 CALL(departure, INPUT, &g->out.departs.departed, g->out.departs.way, WAY, g->report)
 
-/* Compares a message with its first half, and with itself. */
+/* One function compares a message with its first half. The other function compares the message with itself. */
 static capn_status try_same(struct given *g) {
     return capn_same(g->form, g->bytes, g->size, g->bytes, g->size / 2, g->limits, g->which, g->report);
 }
@@ -53,7 +53,7 @@ static capn_status try_same_as_itself(struct given *g) {
     return capn_same(g->form, g->bytes, g->size, g->bytes, g->size, g->limits, g->which, g->report);
 }
 
-/* Splits the words into two segments, so that some pointers lead out of their segment. */
+/* Splits the words of a message into two segments, so that some pointers lead out of their segment. */
 #define HALVES {{g->bytes, g->size / 16}, {g->bytes + 8 * (g->size / 16), g->size / 8 - g->size / 16}}
 #define HELD(name, ...) \
     static capn_status try_##name##_segments(struct given *g) { \
@@ -80,7 +80,7 @@ enum { CALLS = sizeof calls / sizeof *calls };
 
 static unsigned long long answered, refused;
 
-/* Makes a call with all pointers set, and then with each combination of null pointers. */
+/* Makes a call with no null pointer, and then with each combination of null pointers. */
 static void compare(size_t call, uint32_t form, const uint8_t *bytes, size_t size) {
     static struct given with, without;
     capn_report wanted, got;
@@ -118,7 +118,7 @@ int main(void) {
         for (size_t call = 0; call < CALLS; call++)
             for (uint32_t form = 0; form < (calls[call].of_forms ? 4 : 1); form++) compare(call, form, bytes, size);
     }
-    /* Without a report, the text doesn't say where the error is. */
+    /* If the report is null, the text of an error doesn't say where the error is. */
     const size_t length = capn_refusal_text(CAPN_RANGE, NULL, text, sizeof text);
     want("the text without a report", strcmp(text, capn_status_text(CAPN_RANGE)), 0);
     want("its length", length, strlen(text));

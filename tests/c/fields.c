@@ -1,24 +1,24 @@
-/* Tests fields by capn_fields.h.
- *
- *     fields             tests entries that are written by hand
- *     fields old | new   shows each message of a stream of fields.capnp as fields.c++ does, read by one of its types
- *     fields any         reads each pointer of each message of a stream as every kind of object, and counts the
- *                        readings that succeed
- *     fields lines       reads the messages of mixed.py in the same way, and prints a line for each pointer
- *
- * For a rejected message, `fields lines` prints `rejected: ` and the text of the error. For an accepted message, it
- * prints a line for each pointer, in preorder. The line has the word of the pointer's kind, and a part for each of
- * eleven readings: as a struct; as a text; as data; as a list of elements without size; as a list of numbers of 1, 8,
- * 16, 32 and 64 bits; as a list of pointers; and as a list of structs. A part is `-` if the pointer can't be read like
- * this. Otherwise it is a sum in hexadecimal: FNV-1a over these numbers of 64 bits:
- *   - for a struct, the numbers of a struct (see below)
+/* Tests the calls of capn_fields.h. The arguments say what the program does:
+ *   - `fields` tests index entries that are written by hand
+ *   - `fields old` and `fields new` print each message of a stream of fields.capnp, as fields.c++ does; they read the
+ *     messages as the older and as the newer type of the schema
+ *   - `fields any` reads each pointer of each message of a stream as every kind of object, and counts the readings that
+ *     succeed
+ *   - `fields lines` reads the messages of mixed.py as every kind of object, and prints a line for each pointer */
+
+/* The lines of `fields lines`. For a rejected message, the line is `rejected: ` and the text of the error. For an
+ * accepted message, there is a line for each pointer, in preorder. The line has the word of the pointer's kind, and a
+ * part for each of eleven readings: as a struct; as a text; as data; as a list of elements without size; as a list of
+ * numbers of 1, 8, 16, 32 and 64 bits; as a list of pointers; and as a list of structs. A part is `-` if the reading
+ * fails. Otherwise the part is a hash in hexadecimal: FNV-1a over 64-bit numbers. These are the numbers:
+ *   - for a struct, the numbers of a struct (see the next comment)
  *   - for a text and for data, the length and the bytes; a null pointer has the default text `none`
- *   - for a list without size, the length
+ *   - for a list of elements without size, the length
  *   - for a list of numbers, the length, and the first thousand numbers
  *   - for a list of pointers, the length, and the numbers of the kinds of the first twenty pointers
- *   - for a list of structs, the length, and the numbers of the first twenty structs
- *
- * The numbers of a struct are the following, in this order:
+ *   - for a list of structs, the length, and the numbers of the first twenty structs */
+
+/* The numbers of a struct in the lines of `fields lines` are the following, in this order:
  *   - its fields of 1 bit at the multiples of 5 below 256
  *   - for each width of 8, 16, 32 and 64 bits, the unsigned fields at the multiples of the width below 256
  *   - for each of these widths, the signed fields at the same places
@@ -50,7 +50,8 @@ static void show_text(const capn_entry *entry, const char *fallback) {
 }
 static void show_int(int64_t number) { printf("%" PRId64 ";", number); }
 
-/* Shows a Point, or a Placed if `more` is set. */
+/* Prints a struct of the type Point of fields.capnp. If `more` is set, the struct has the type Placed, whose additional
+ * fields are printed too. */
 static void show_point(const capn_record *point, int more) {
     show_int(capn_field_int(point, 0, 32, 0));
     show_int(capn_field_int(point, 32, 32, -1));
@@ -142,7 +143,7 @@ static void show_message(const capn_entry *entries, int is_new) {
     printf("\n");
 }
 
-/* Reads fields and pointers of a struct, inside the struct and beyond its end. */
+/* Reads fields and pointers of a struct. Some of them lie inside the struct, and some lie beyond its end. */
 static uint64_t read_record(const capn_record *record) {
     static const uint32_t widths[] = {1, 8, 16, 32, 64};
     uint64_t sum = 0;
@@ -156,9 +157,10 @@ static uint64_t read_record(const capn_record *record) {
     return sum;
 }
 
-static volatile uint64_t kept; /* uses what is read, so that the compiler keeps the reads */
+static volatile uint64_t kept; /* results go here, so that the compiler keeps the reads */
 
-/* Returns in how many ways an entry can be read: as a struct, as a text, as data, and as each kind of list. */
+/* Returns how many readings of an index entry succeed. The readings are as a struct, as a text, as data, and as each
+ * kind of list. */
 static int read_any(const capn_entry *entry) {
     capn_record record;
     capn_items items;
@@ -261,7 +263,8 @@ static void show_line(const capn_entry *entry) {
 
 /* ---- streams */
 
-/* Returns the entries of a message, and sets their number. Returns NULL if the message is rejected. */
+/* Returns the index entries of a message, and sets `*count` to the number of entries. Returns NULL if the message is
+ * rejected. */
 static capn_entry *entries_of(const uint8_t *message, size_t size, uint32_t *count, capn_status *status,
                               capn_report *report) {
     const capn_limits limits = CAPN_USUAL_LIMITS;
@@ -290,7 +293,7 @@ static uint8_t *alone(const uint8_t *from, size_t size) {
     return message;
 }
 
-/* Prints the lines for each message of mixed.py. Before each message stands its length. */
+/* Prints the lines for each message that mixed.py wrote. Each message comes after its length. */
 static int show_lines(void) {
     size_t have;
     uint8_t *all = all_of_input(&have);
@@ -317,7 +320,7 @@ static int show_lines(void) {
     return failed != 0;
 }
 
-/* Reads or shows each message of a stream. */
+/* Reads each message of a stream, and prints the message's fields or the number of readings that succeed. */
 static int show_stream(const char *as) {
     const int is_any = !strcmp(as, "any");
     const capn_limits limits = CAPN_USUAL_LIMITS;
@@ -349,7 +352,7 @@ static int show_stream(const char *as) {
     return failed != 0;
 }
 
-/* Reads the field `x @0 :UInt64 = 7` from a struct of this many words. Its first word is `stored`. */
+/* Reads the field `x @0 :UInt64 = 7` from a struct of this many words. The first word of the struct is `stored`. */
 static uint64_t of_words(uint16_t words, uint64_t stored) {
     const capn_entry entry = {0, 0, 1, words, 0, CAPN_KIND_STRUCT};
     capn_record record;
@@ -359,7 +362,7 @@ static uint64_t of_words(uint16_t words, uint64_t stored) {
     return capn_field(&record, 0, 64, 7);
 }
 
-/* Writes a message of one segment with these words after its table. */
+/* Writes a message of one segment, and returns the message's length. These words follow the segment table. */
 static size_t message(uint8_t *to, const uint64_t *words, size_t count) {
     memset(to, 0, 8);
     to[4] = (uint8_t)count;
@@ -367,8 +370,8 @@ static size_t message(uint8_t *to, const uint64_t *words, size_t count) {
     return 8 + 8 * count;
 }
 
-/* Tests a message in which the only pointer of the root refers to a list of two structs. The list has the same value
- * with and without zero words. A reader with an older schema reads numbers or pointers there. */
+/* Tests a message whose root has one pointer, which refers to a list of two structs. Each struct has a zero word or a
+ * null pointer, or is empty. A reader with an older schema reads numbers or pointers from the list. */
 static void two_of_zeros(const uint64_t *words, size_t count) {
     uint8_t data[64];
     capn_entry all[8];
@@ -394,7 +397,8 @@ static void two_of_zeros(const uint64_t *words, size_t count) {
     want("structs as bits", capn_list(data, capn_slot(&root, 0), CAPN_KIND_BITS, &items), 0);
 }
 
-/* Equal values give equal results: if a struct is too short for a number or a pointer, zero or null is read. */
+/* Messages with equal values give equal results. If a struct is too short for a number or a pointer, zero or null is
+ * read. */
 static void by_another_schema(void) {
     static const uint64_t a_word[] = {1ull << 48, 0x1700000001, 0x100000008, 0, 0};
     static const uint64_t a_pointer[] = {1ull << 48, 0x1700000001, 0x1000000000008, 0, 0};
@@ -407,7 +411,8 @@ static void by_another_schema(void) {
     want("the same", capn_same(CAPN_STREAM, one, message(one, a_word, 5), other, size, NULL, NULL, NULL), CAPN_OK);
     want("the same", capn_same(CAPN_STREAM, one, message(one, a_pointer, 5), other, size, NULL, NULL, NULL), CAPN_OK);
 
-    /* A list of bytes is read as structs. A field that is wider than an element has its default. */
+    /* A list of bytes is read as a list of structs. If a field is wider than a byte, reading it returns the field's
+     * default value. */
     static const uint64_t bytes_of_older[] = {1ull << 48, 1 | (2 | 1 << 3) * (1ull << 32), 5};
     capn_entry all[2];
     capn_record root, row;
@@ -427,7 +432,7 @@ static void by_hand(void) {
     want("what is stored for 7", (int64_t)of_words(1, 0), 7);
     want("no word", (int64_t)of_words(0, 0), 7);
 
-    /* Reads each bit and each width of two words, and compares them with reading the single bits. */
+    /* Reads fields of each width at each bit of two words. Compares each field with its single bits. */
     uint8_t data[16];
     for (int i = 0; i < 16; i++) data[i] = (uint8_t)(37 * i + 11 * i * i + 201);
     capn_record record = {data, NULL, 128, 0};
@@ -445,7 +450,7 @@ static void by_hand(void) {
         }
     want("far beyond", (int64_t)capn_field(&record, UINT32_MAX, 64, 9), 9);
 
-    /* Tests the number of entries of an index. No smaller array is enough. */
+    /* Tests the number of index entries that a message needs. A smaller array isn't enough. */
     static const uint8_t nested[] = {0, 0, 0, 0, 4, 0, 0, 0, 0, 0, 0, 0, 0, 0, 2, 0, 4, 0, 0, 0, 0, 0, 1, 0,
                                      0, 0, 0, 0, 0, 0, 0, 0, 0, 0, 0, 0, 0, 0, 0, 0};
     const capn_limits usual = CAPN_USUAL_LIMITS;
@@ -478,13 +483,13 @@ static void by_hand(void) {
     entry.kind = CAPN_KIND_U16;
     want("other numbers", capn_text(abc, &entry, &text, &length), 0);
 
-    /* Tests which kind of list can be read as which. Each kind is read as each other kind, with two elements. */
-    /* Which kinds of lists can be read as which kinds. A string stands for the kind as which a list is read. A
-     * character of the string stands for the list's own kind, and is `1` if the list can be read. Strings and
-     * characters are in the order void, bits, bytes, u16, u32, u64, pointers, rows. */
+    /* Reads each kind of list as each other kind. The lists have two elements. */
+    /* This table says which kinds of lists can be read as which kinds. A string stands for the kind as which a list is
+     * read. A character of the string stands for the list's own kind, and is `1` if the list can be read. Strings and
+     * characters are in the order void, bits, bytes, u16, u32, u64, pointers, rows (structs). */
     static const char *const taken[] = {
         "1......1", ".1......", "..1....1", "...1...1", "....1..1", ".....1.1", "......11", "1.111111"};
-    /* the element whose bits are all 1, for each kind from void to u64 */
+    /* the value of an element whose bits are all 1, for each kind from void to u64 */
     static const int64_t full[] = {0, 1, 0xff, 0xffff, 0xffffffff, -1};
     uint8_t ones[128];
     memset(ones, 0xff, sizeof ones);

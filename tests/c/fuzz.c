@@ -1,7 +1,10 @@
-/* Passes any bytes to every call, in each form. The calls must agree with one another, and must read nothing outside of
- * the bytes. The program takes the bytes at the end of each line of standard input, in hexadecimal, and copies of them
- * with some bytes changed, by a fixed seed. A fuzzer calls LLVMFuzzerTestOneInput: clang -DFUZZER
- * -fsanitize=fuzzer,address -I c tests/c/fuzz.c build/libcapn.a */
+/* Passes any bytes to each call of capn.h, in each form (stream, packed and bare). The calls must agree with one
+ * another, and must not read outside of the bytes. Each line of standard input ends with bytes in hexadecimal. The
+ * program passes these bytes, and copies of them with some bytes changed. The changes come from a fixed seed. */
+
+/* A fuzzer calls the function LLVMFuzzerTestOneInput of this file. The command to build the fuzzer:
+ *
+ *     clang -DFUZZER -fsanitize=fuzzer,address -I c tests/c/fuzz.c build/libcapn.a */
 #include "usual.h"
 #include <stdio.h>
 #include <stdlib.h>

@@ -1,6 +1,6 @@
-"""Writes calls for tests/c/vectors. Their inputs are a thousand messages and the hostile inputs of
-`tests/reference/hostile`. `tests/reference/generated` makes the messages from a fixed seed. Most of them are hostile or
-changed."""
+"""Writes calls for tests/c/vectors.c. The inputs of the calls are a thousand generated messages and the hostile inputs
+of `tests/reference/hostile`. `tests/reference/generated` makes the messages from a fixed seed, and most of them are
+hostile or changed."""
 import random
 from importlib.machinery import SourceFileLoader
 from importlib.util import module_from_spec, spec_from_loader

@@ -1,8 +1,8 @@
 /* Makes many calls of all functions of capn.h, with valid and hostile inputs and with buffers of each size. The memory
  * that is passed to a call lies before or after a page that can't be accessed. The input is read-only. The seed is
- * fixed, so each run makes the same calls. The argument is the number of calls. Bytes at the end of lines of standard
- * input, in hexadecimal, are inputs, too. The program prints a line with a sum of everything that the calls returned
- * and wrote. Two builds of the library give the same sum. */
+ * fixed, so each run makes the same calls. The argument is the number of calls. Each line of standard input ends with
+ * bytes in hexadecimal, which are inputs too. The program prints a line with a hash of everything that the calls
+ * returned and wrote. Two builds of the library give the same hash. */
 #define TEST "guarded"
 #include "wanted.h"
 #include <signal.h>
@@ -38,8 +38,8 @@ static uint64_t draw(void) {
 }
 static uint32_t any(uint32_t below) { return (uint32_t)(draw() >> 32) % below; }
 
-/* Returns the last or the first `size` bytes between two pages that can't be accessed. For a size of 0, sometimes
- * returns null. */
+/* Returns the last or the first `size` bytes of some pages. Pages that can't be accessed lie before and after them. For
+ * a size of 0, sometimes returns null. */
 static uint8_t *part(uint8_t *start, size_t size) {
     if (!size && !any(3)) return NULL;
     return any(3) ? at_end(start, size) : start;
@@ -67,8 +67,8 @@ static void numbers(uint32_t s, uint32_t w, uint32_t count) {
     for (uint32_t i = 0; i < count; i++) words[s][w + i] = any(3) ? draw() >> any(64) : 0;
 }
 
-/* Writes word w of a segment: null, a capability, or a pointer to a new object at the end of a segment. The pointer is
- * a near pointer, or a far pointer with a landing pad of one word or two words. */
+/* Writes word w of segment s. The word is null, a capability, or a pointer to a new object at the end of a segment. The
+ * pointer is a near pointer, or a far pointer with a landing pad of one word or two words. */
 static void slot(uint32_t s, uint32_t w, uint32_t depth) {
     const uint32_t choice = any(8), a = any(4), b = depth ? any(4) : 0, rows = any(4), width = any(8);
     if (!choice) return;
@@ -163,8 +163,8 @@ static void store(char *line) {
 
 static uint8_t *of_input, *of_limits, *of_out, *of_report, *of_other;
 
-/* The memory that the current call may write, and a sum. The sum is FNV-1a over everything that all calls returned and
- * wrote. */
+/* The memory that the current call may write, and a hash. The hash is FNV-1a over everything that all calls returned
+ * and wrote. */
 static struct { const uint8_t *bytes; size_t size; } written[4];
 static uint32_t written_count;
 static uint64_t sum = 0xcbf29ce484222325;
@@ -180,7 +180,8 @@ static void add_answer(capn_status answered) {
     for (uint32_t i = 0; i < written_count; i++) add(written[i].bytes, written[i].size);
 }
 
-/* Fills the memory that a call may write. What the call doesn't write must be unchanged afterwards. */
+/* Fills the memory that a call may write with a pattern. Bytes that the call doesn't write must still have the pattern
+ * afterwards. */
 static uint8_t *filled(uint8_t *start, size_t size) {
     uint8_t *out = part(start, size);
     if (size) memset(out, FILL, size);
@@ -193,7 +194,7 @@ static void kept(const uint8_t *out, size_t from, size_t size) {
     for (size_t i = from; i < size; i++) need(out[i] == FILL, "the rest of the buffer is as it was");
 }
 
-/* Chooses default limits, low limits, or any numbers. */
+/* Chooses limits for a call: the default limits, low limits, or any numbers. */
 static void choose(capn_limits *l) {
     *l = usual;
     const uint32_t choice = any(8);
@@ -208,7 +209,7 @@ static void choose(capn_limits *l) {
     }
 }
 
-/* Chooses the size of a buffer in bytes: 0, small, about as large as is enough, or large. */
+/* Chooses the size of a buffer in bytes. The size is 0, small, about as large as is enough, or large. */
 static size_t room_for(size_t enough) {
     switch (any(6)) {
     case 0: return 0;
@@ -311,7 +312,8 @@ static size_t call(uint32_t which, const uint8_t *bytes, size_t size, size_t eno
     case 11: {
         doing = "capn_same";
         uint32_t *told = any(4) ? (uint32_t *)(void *)filled(of_other, sizeof *told) : NULL;
-        /* The second message has all bytes of the first, the bytes from some byte on, or the bytes up to some byte. */
+        /* The second message is the whole first message, or all bytes of the first message from some byte on, or up to
+         * some byte. */
         const uint32_t of = size ? any(3) : 0, at = of ? any((uint32_t)size + 1) : 0;
         const uint8_t *second = of == 1 ? bytes + at : bytes;
         const size_t most = of == 1 ? size - at : of ? at : size;
@@ -346,7 +348,8 @@ static size_t call(uint32_t which, const uint8_t *bytes, size_t size, size_t eno
     return status == CAPN_OK || status == CAPN_NO_ROOM ? r->length : 0;
 }
 
-/* Makes the next input: a message, a packed message, stored bytes, a changed copy of one of these, or any bytes. */
+/* Makes the next input: a message, a packed message, bytes from standard input, a changed copy of one of these, or any
+ * bytes. */
 static size_t next(uint8_t *bytes) {
     static uint8_t text[LONGEST];
     const uint32_t choice = any(8);

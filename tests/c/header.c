@@ -1,4 +1,4 @@
-/* Compiles the header as C or C++, and makes each call once, on a null root. */
+/* Compiles capn.h as C or C++, and makes each call of capn.h once, on a null root. */
 #include "capn.h"
 
 int main(void) {

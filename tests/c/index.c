@@ -1,13 +1,13 @@
-/* Tests the index of a message that has each kind of object. The message is written by hand, without a table, in one
- * segment or in three. It lies at any address, next to pages that can't be accessed. The array of entries has each
- * possible length. (tests/c/fuzz.c reads the indexes of many messages.) */
+/* Tests the index of a hand-written message that has each kind of object. The message has no segment table, or it has a
+ * table and one or three segments. It lies at any address, next to pages that can't be accessed. The array of entries
+ * has each possible length. (tests/c/fuzz.c reads the indexes of many messages.) */
 #define TEST "index"
 #include "wanted.h"
 
 enum { COUNT = 17, WORDS = 26 };
 
-/* `list` returns the pointer that lies at `from` and refers to a list at `to`. `object` returns the pointer that lies
- * at `from` and refers to a struct at `to`. */
+/* `list` returns a list pointer, and `object` returns a struct pointer. The pointer lies at word `from`, and its target
+ * begins at word `to`. */
 static uint64_t list(uint64_t from, uint64_t to, uint64_t width, uint64_t count) {
     return 1 | (to - from - 1) << 2 | width << 32 | count << 35;
 }
@@ -15,9 +15,9 @@ static uint64_t object(uint64_t from, uint64_t to, uint64_t words, uint64_t slot
     return (to - from - 1) << 2 | words << 32 | slots << 48;
 }
 
-/* Writes a struct of a word and eleven pointers, one for each kind of object. Two of the objects are a list of two
- * pointers and a list of two structs with a word and a pointer. An empty struct has no words, so its pointer refers to
- * the place of the pointer itself. */
+/* Writes a message, and the entries of its index. The root is a struct of one word and eleven pointers, one for each
+ * kind of object. The list of pointers has two elements. The list of structs has two elements, each with a word and a
+ * pointer. An empty struct has no words, so the pointer to the empty struct refers to its own place. */
 static void make(uint64_t *w, capn_entry *e) {
     const uint64_t words[WORDS] = {
         object(0, 1, 1, 11), 7, 0, list(3, 13, 0, 9), list(4, 13, 1, 9), list(5, 14, 2, 3), list(6, 15, 3, 3),
@@ -43,8 +43,8 @@ int main(void) {
     make(words, wanted);
     wanted[0].span = COUNT - 1;
     for (size_t segments = 0; segments <= 3; segments += segments == 0 ? 1 : 2) {
-        /* The first of three segments has only the root. The root is a far pointer to the landing pad at the start of
-         * the third segment. */
+        /* If there are three segments, the first one has only the root pointer. It is a far pointer to the landing pad
+         * at the start of the third segment. */
         size_t table = segments == 0 ? 0 : 8 * (segments / 2 + 1), more = segments == 3 ? 8 : 0;
         size_t size = table + more + 8 * WORDS;
         for (size_t off = 0; off < 8; off++) {

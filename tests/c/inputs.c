@@ -1,5 +1,5 @@
-/* Tests each call with enough memory and with bad input. Bad inputs are empty bytes, numbers out of range, buffers of
- * each size, lengths without the announced bytes, and hostile messages. */
+/* Tests each call of capn.h with enough memory and with bad input. Bad inputs are empty bytes, numbers out of range,
+ * buffers of each size, lengths without the announced bytes, and hostile messages. */
 #define TEST "inputs"
 #include "wanted.h"
 
@@ -10,10 +10,11 @@ static void blank(const char *what, const capn_report *r) {
 
 static const uint8_t message[32] = {0, 0, 0, 0, 3, 0, 0, 0, 0, 0, 0, 0, 2, 0, 0, 0, 5};
 
-/* Makes each call with enough memory and large buffers. Tests its status, its report, and each byte that it writes. */
+/* Makes each call of capn.h with enough memory and large buffers. Tests the call's status, its report, and each byte
+ * that it writes. */
 static void answered(void) {
     const uint8_t canonical[16] = {0, 0, 0, 0, 1, 0, 0, 0, 5}, packed[8] = {0x10, 3, 0x10, 2, 1, 5};
-    /* The first bytes of the SHA-256 of the canonical bytes. */
+    /* The first bytes of the expected digest: the SHA-256 of the canonical bytes. */
     const uint8_t sum[4] = {0x6a, 0x3e, 0xfd, 0x90};
     const capn_limits plain = limits_of(8388608, 8388608, 64, CAPN_PLAIN);
     capn_report r;
@@ -56,8 +57,8 @@ static void answered(void) {
     want("its length", r.length, 32);
 }
 
-/* Makes each call with a message and buffers at any address. The message and each buffer end where their allocated
- * blocks end, so that a sanitizer detects an access past the end. */
+/* Makes each call of capn.h with a message and buffers at any address. The message and each buffer end where their
+ * allocated blocks end, so that a sanitizer detects an access past the end. */
 static void anywhere(void) {
     const uint8_t packed[8] = {0x10, 3, 0x10, 2, 1, 5};
     for (size_t off = 0; off < 8; off++)
@@ -96,8 +97,8 @@ static void anywhere(void) {
         }
 }
 
-/* A message may have 1 to 4,096 segments. Each number is accepted in each form that has segments. The first segment has
- * a null root, and the others have no words. */
+/* A message may have 1 to 4,096 segments. The calls accept each of these numbers, in the forms stream and packed. The
+ * first segment has a null root, and the others have no words. */
 static void segments(void) {
     static uint8_t frame[4 * 4097 + 4 + 8], text[2 * sizeof frame], digest[32];
     capn_report r;
@@ -130,7 +131,7 @@ static void nothing(void) {
     blank("its report", &r);
 }
 
-/* The offset and the range of each limit that is a number. */
+/* The numbers among the limits: where each lies in capn_limits, and its range. */
 static const struct {
     size_t at;
     uint32_t least, most;
@@ -143,7 +144,7 @@ static const struct {
 };
 enum { NUMBERS = sizeof numbers / sizeof *numbers };
 
-/* Returns the limits with the field at the offset `at` set to a number. */
+/* Returns limits whose field at the offset `at` is set to a number. */
 static capn_limits with(capn_limits limits, size_t at, uint32_t number) {
     memcpy((uint8_t *)&limits + at, &number, sizeof number);
     return limits;
@@ -159,7 +160,7 @@ static void ranges(void) {
         least = with(least, numbers[i].at, numbers[i].least);
         greatest = with(greatest, numbers[i].at, numbers[i].most);
     }
-    /* The last entry has a bad tariff as well as the bad limit of the entry before it. */
+    /* The last limits have two errors: the bad limit of the entry before them, and a bad counting rule (tariff). */
     bad[count] = bad[count - 1];
     bad[count++].tariff = 9;
     const uint32_t forms[] = {0, 1, 2, 3, 4, UINT32_MAX}, tariffs[] = {2, 3, UINT32_MAX};
@@ -206,8 +207,8 @@ static void rooms(void) {
 }
 
 static void announced(void) {
-    /* A segment table of 8 bytes announces one segment of 2^28 words, 2^32 segments, the greatest number of segments,
-     * or one segment more. */
+    /* These segment tables of 8 bytes announce 2^28 words, one word more, 2^32 segments, the greatest number of
+     * segments, or one segment more. */
     const uint8_t words[8] = {0, 0, 0, 0, 0, 0, 0, 0x10}, more[8] = {0, 0, 0, 0, 1, 0, 0, 0x10};
     const uint8_t all[8] = {255, 255, 255, 255};
     const uint8_t most[8] = {0xff, 0x0f, 0, 0}, above[8] = {0, 0x10, 0, 0};
@@ -221,14 +222,16 @@ static void announced(void) {
     want("announced", r.at, 1ull << 32);
     want("4,096 segments", capn_check(CAPN_STREAM, most, 8, &greatest, &r), CAPN_FRAME_CUT);
     want("4,097 segments", capn_check(CAPN_STREAM, above, 8, &greatest, &r), CAPN_TOO_MANY_SEGMENTS);
-    /* Each 2 bytes are a run of 256 zero words. All runs together have more words than the maximum of the call, 256. */
+    /* Each 2 bytes are a run of 256 zero words in packed bytes. The limit of the call is 256 words, so the second run
+     * exceeds it. */
     static uint8_t zeros[2 * 4096];
     for (size_t i = 0; i < sizeof zeros; i += 2) zeros[i + 1] = 255;
     want("a packed run above its maximum", capn_unpack(zeros, sizeof zeros, 256, NULL, 0, &r), CAPN_PACKED_TOO_LONG);
     want("its offset", r.at, 2);
 }
 
-/* Passes more words than a message without a table may have. The call counts them and reads none. */
+/* Passes more words than a message without a segment table may have. The call only counts the words. They can't be
+ * read. */
 static void too_long(void) {
     size_t words = (1u << 28) + 2;
     capn_report r;
@@ -245,8 +248,8 @@ static void too_long(void) {
 }
 
 static void hostile(void) {
-    /* A struct whose only pointer refers to the struct itself, and a list of two pointers that both refer to the list.
-     * The limits end the traversal of each. */
+    /* The first message is a struct whose only pointer refers to the struct itself. The second is a list of two
+     * pointers that both refer to the list itself. The limits end the traversal of each message. */
     const uint8_t self[8] = {0xfc, 0xff, 0xff, 0xff, 0, 0, 1, 0};
     const uint8_t twice[24] = {1,    0,    0,  0, 0x16, 0,    0,    0,    0xfd, 0xff, 0xff, 0xff,
                                0x16, 0, 0, 0, 0xf9, 0xff, 0xff, 0xff, 0x16, 0,    0,    0};
@@ -262,8 +265,8 @@ static void hostile(void) {
     want("itself, lower budget", capn_canonical(CAPN_BARE, self, 8, &low, NULL, 0, &r), CAPN_OVER_BUDGET);
     want("paid", r.paid, 100);
     for (int i = 0; i < 32; i++) want("a digest that was refused", digest[i], 0xAA);
-    /* Tries each beginning of a message, and each beginning with one byte changed. No call may read a byte past the
-     * end. */
+    /* Passes the first bytes of a message, of each length, as they are and with one byte changed. No call may read a
+     * byte past the end. */
     for (size_t size = 0; size <= 32; size++)
         for (int bit = 0; bit < 256; bit++) {
             uint8_t *bytes = malloc(size ? size : 1), out[8];

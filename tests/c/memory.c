@@ -1,6 +1,6 @@
-/* Fails each allocation of each call in turn. The call has to return CAPN_MEMORY, leave the buffer unchanged, set the
- * report to 0, and free everything. Then makes the calls that need no allocation while every allocation fails. These
- * calls have to return what they return with memory. */
+/* Tests each call of capn.h when one of its allocations fails: the first, the second, and so on. The call has to return
+ * CAPN_MEMORY, leave the buffer unchanged, set the report to 0, and free everything. Then makes the calls that need no
+ * allocation while every allocation fails. These calls have to return the same as with memory. */
 #include "refusing.h"
 #include "usual.h"
 #include <stdio.h>
@@ -16,8 +16,8 @@ static void fail(const char *name, const char *why) {
     printf("memory: %s: %s\n", name, why);
 }
 
-/* Writes a chain of structs of this depth. Each struct has two pointers, and its first pointer refers to the next
- * struct. The last struct has a number. Returns the length in bytes. */
+/* Writes a message that is a chain of `depth` structs. Each struct has two pointers, and its first pointer refers to
+ * the next struct. The last struct has a number. Returns the length in bytes. */
 static size_t chain(uint8_t *at, size_t depth) {
     memset(at, 0, 16 * depth);
     at[depth > 1 ? 6 : 4] = depth > 1 ? 2 : 1;
@@ -29,7 +29,7 @@ static size_t chain(uint8_t *at, size_t depth) {
     return 16 * depth;
 }
 
-/* Writes a message of one segment or more. Only the first segment has words. Returns the length in bytes. */
+/* Writes a message with its segment table. Only the first segment has words. Returns the length in bytes. */
 static size_t frame(uint8_t *to, uint8_t segments, const uint8_t *words, size_t size) {
     size_t table = 8 * (segments / 2 + 1);
     memset(to, 0, table);
@@ -108,7 +108,8 @@ static void refused(const char *name, const capn_report *report) {
     if (memcmp(report, &none, sizeof none)) fail(name, "reports");
 }
 
-/* Fails each allocation of a call in turn. The call has to make at least `least` allocations. */
+/* Repeats a call until it succeeds. Each time, one more allocation succeeds, and all later allocations fail. The call
+ * has to fail at least `least` times. */
 static void each(const char *name, call *make, const input *in, int least) {
     capn_report report;
     uint32_t status = CAPN_MEMORY;
@@ -129,9 +130,9 @@ static void each(const char *name, call *make, const input *in, int least) {
     printf("memory: %s: refused %d times\n", name, count);
 }
 
-/* Tests a call with memory, and then without memory. With memory, the call has to allocate `growths` times and return
- * `wanted`. Without memory, every allocation fails. Then the call has to return CAPN_MEMORY, or `wanted` if it makes no
- * allocation. */
+/* Tests a call with memory, and then while every allocation fails. With memory, the call has to allocate `growths`
+ * times and return `wanted`. Without memory, it has to return CAPN_MEMORY if `growths` isn't 0. If `growths` is 0, it
+ * has to return `wanted` again. */
 static void wants(const char *name, call *make, const input *in, long growths, uint32_t wanted) {
     capn_report ample, short_of;
     left = -1;
@@ -179,8 +180,8 @@ static void in_turn(void) {
     each("departure, packed", departed, &pack, 3);
 }
 
-/* A message without a table, or with at most 64 segments, needs no memory at any depth. A message of 65 segments needs
- * one allocation, for the ends of its segments. */
+/* Tests messages of any depth. A message without a segment table, or with at most 64 segments, needs no memory. A
+ * message of 65 segments needs one allocation, for the ends of its segments. */
 static void at_depth(uint32_t most, size_t depth, uint32_t wanted) {
     const capn_limits limits = limits_of(1u << 20, 1u << 20, most, CAPN_STRICT);
     const uint32_t room = wanted == CAPN_OK ? CAPN_NO_ROOM : wanted;
@@ -223,9 +224,9 @@ static void at_depth(uint32_t most, size_t depth, uint32_t wanted) {
     wants("index, 65 segments", indexed, &more, wanted == CAPN_OK ? 2 : 1, wanted);
 }
 
-/* A call needs no memory if it finds an error before it keeps anything. Such inputs are: no bytes to pack or unpack, a
- * length that isn't a multiple of a word, a first group that is truncated or too long, and a table that is truncated or
- * announces too much. */
+/* Tests calls that return before they store anything, so that they need no memory. Their inputs are no bytes, a length
+ * that isn't a multiple of 8, packed bytes whose first group is truncated or too long, and a segment table that is
+ * truncated or announces too much. */
 static void unread(void) {
     const uint8_t cut[9] = {255}, head[8] = {1, 0, 0, 0, 1}, count[8] = {255, 255}, whole[16] = {1}, sizes[264] = {64};
     const input nothing = {CAPN_STREAM, NULL, 0, usual}, odd = {CAPN_BARE, cut, 9, usual};

@@ -1,4 +1,4 @@
-"""Writes valid and hostile messages from a fixed seed. Before each message stands its length, a number of 4 bytes.
+"""Writes valid and hostile messages from a fixed seed. Each message comes after its length, a number of 4 bytes.
 
     mixed.py COUNT     writes COUNT messages: half of them as tests/reference/generated makes them, and half changed
                        copies of valid ones
@@ -14,7 +14,7 @@ from pathlib import Path
 
 REFERENCE = Path(__file__).resolve().parents[1] / "reference"
 SEED = 20260
-# The number of bits of a number, by the kind of its list.
+# The number of bits of an element, by the kind of the list.
 BITS = [0, 1, 8, 16, 32, 64]
 TEXTS = [b"\0", b"abc\0", "grün\0".encode(), b"\xff\xfe\0", b"no zero", b"a\0b\0"]
 
@@ -33,8 +33,8 @@ def number(rng):
 
 
 def add(words, rng, depth):
-    """Adds an object to the words of a segment. Returns its pointer without the offset, and the place where the object
-    begins."""
+    """Adds an object to the words of a segment. Returns a pointer to the object without its offset, and the place where
+    the object begins."""
     kind = rng.random() if depth else 0.3 + 0.7 * rng.random()
     begin = len(words)
     if kind < 0.3:
@@ -71,8 +71,8 @@ def add(words, rng, depth):
 
 
 def fill(words, rng, places, depth):
-    """Sets the pointers at some places of a segment. Each becomes null, a capability, or a pointer to an object that is
-    added."""
+    """Sets the pointers at some places of a segment. Each pointer becomes null, a capability, or a pointer to a new
+    object."""
     for place in places:
         kind = rng.random()
         if kind < 0.15:
@@ -85,7 +85,7 @@ def fill(words, rng, places, depth):
 
 
 def valid(rng):
-    """Returns the words of a valid message of one segment. The root isn't always a struct."""
+    """Returns the words of a valid message of one segment. In some messages the root isn't a struct."""
     most = rng.choice([1, 4, 8, 16])
     words = []
     while len(words) < most:

@@ -1,6 +1,6 @@
-/* Makes each call while every allocation fails, on the stored messages that have no table or at most 64 segments. No
- * call may allocate. Each call has to return what it returns with memory, for an empty buffer, for a buffer of 1 byte
- * or entry, and for a large buffer. */
+/* Makes calls while every allocation fails. The inputs are the messages of the test vectors that have no segment table,
+ * or at most 64 segments. No call may allocate. Each call has to return the same as with memory, for an empty buffer,
+ * for a buffer of 1 byte or 1 entry, and for a large buffer. */
 #include "capn.h"
 #include "refusing.h"
 #include <stdio.h>
@@ -49,7 +49,7 @@ static capn_status surveyed(const input *in, uint8_t *out, size_t room, capn_rep
     return capn_survey(in->form, bytes, in->size, &in->limits, (capn_figures *)(void *)out, report);
 }
 
-/* Makes a call with memory, and then without memory. */
+/* Makes a call with memory, and then while every allocation fails. Compares both results. */
 static void twice(const char *name, call *make, const input *in, size_t room) {
     capn_report with, without;
     memset(ample, 0xAA, room < 4096 ? 4096 : room);
@@ -80,7 +80,7 @@ static void each(const input *in) {
     if (in->form == CAPN_BARE) twice("is_canonical", judged, in, 0);
 }
 
-/* Returns whether a message has no table, or at most 64 segments. */
+/* Returns whether a message has no segment table, or at most 64 segments. */
 static int is_few(const input *in) {
     if (in->form == CAPN_BARE || in->size < 4) return 1;
     return bytes[0] < 64 && !bytes[1] && !bytes[2] && !bytes[3];

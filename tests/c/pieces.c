@@ -1,12 +1,12 @@
-/* Tests the version, the texts of the statuses, and the two calls that read in chunks. These calls get each beginning
- * of a message and of packed bytes, with each size of buffer. The memory lies at any address, next to a page that can't
- * be accessed. */
+/* Tests the version, the texts of the statuses, capn_first and capn_unpack_some. The last two calls read in chunks.
+ * They get the first bytes of a message or of packed bytes, of each length, with each size of buffer. The memory lies
+ * at any address, next to a page that can't be accessed. */
 #define TEST "pieces"
 #include "wanted.h"
 
 static uint8_t *guarded[2];
 
-/* Each status has a text of its own. All other numbers share one text. */
+/* Each status has a text of its own. All numbers that aren't a status share one text. */
 static void texts(const char *version) {
     static const capn_status all[] = {
         /* c/statuses.txt: numbers */
@@ -28,7 +28,8 @@ static void texts(const char *version) {
             want("two texts", strcmp(capn_status_text(all[i]), capn_status_text(all[j])) != 0, 1);
 }
 
-/* Writes a message with segments of these sizes. Its bytes are 1, 2, 3 and so on. Returns its length. */
+/* Writes a message with segments of these sizes, and returns the message's length. The bytes after the segment table
+ * are 1, 2, 3 and so on. */
 static size_t frame(uint8_t *out, const uint32_t *sizes, uint32_t count) {
     size_t table = 8 * (count / 2 + 1), words = 0;
     memset(out, 0, table);
@@ -49,9 +50,9 @@ static void is_first(const char *what, const uint8_t *bytes, size_t size, capn_s
     want("no more", r.at | r.paid | r.visits | r.segment | r.word, 0);
 }
 
-/* Passes each beginning of messages of one to five segments, at each address. No byte follows the beginning that is
- * passed. At first the call reports that it needs 8 bytes, then the length of the table, and then the length of the
- * message. If the message is complete, with or without bytes after it, the call reports its length. */
+/* Passes the first bytes of messages of one to five segments to capn_first, of each length and at each address. At
+ * first the call reports that it needs 8 bytes, then the length of the segment table, and then the length of the
+ * message. If the message is complete, with or without bytes after it, the call reports the message's length. */
 static void beginnings(void) {
     static const uint32_t sizes[5] = {2, 0, 3, 1, 4};
     uint8_t bytes[160];
@@ -68,7 +69,7 @@ static void beginnings(void) {
     is_first("no bytes at all", NULL, 0, CAPN_FRAME_EMPTY, 8);
 }
 
-/* Tests the errors, and after how many bytes each is found. */
+/* Tests the errors of capn_first, and how many bytes it needs to find each error. */
 static void refused(void) {
     const capn_limits one = limits_of(1, 1, 1, 0), third = limits_of(1, 1, 1, 2);
     const capn_limits bad[] = {limits_of(0, 1, 1, 0), limits_of(1, 1, 0, 0), limits_of(1, 1, 257, 0),
@@ -89,7 +90,8 @@ static void refused(void) {
     want("no report", r.length | r.at, 0);
 }
 
-/* Packed words of all kinds: zero words, words with one byte that isn't zero, and words with eight. */
+/* Words of all kinds, and their packed bytes. There are zero words, words with one byte that isn't zero, and words with
+ * eight such bytes. */
 enum { WORDS = 40 };
 static uint8_t words[8 * WORDS], text[10 * WORDS];
 static size_t text_size;
@@ -104,8 +106,9 @@ static void make_words(void) {
     text_size = r.length;
 }
 
-/* Passes each beginning of the packed bytes, with each size of buffer. The written bytes have to be a beginning of the
- * words. The bytes that the call took have to unpack to the written bytes. Nothing else may change. */
+/* Passes the first packed bytes of each length to capn_unpack_some, with each size of buffer. The call has to write the
+ * first bytes of the words. The packed bytes that the call took have to unpack to the written bytes. Nothing else may
+ * change. */
 static void some(void) {
     for (size_t size = 0; size <= text_size; size++)
         for (size_t room = 0; room <= sizeof words + 9; room += room < 64 ? 1 : 7) {
@@ -131,8 +134,8 @@ static void some(void) {
     want("no length", r.length | r.at, 0);
 }
 
-/* Unpacking in chunks gives the same words as unpacking at once. The chunks have each length, and the buffers have each
- * size that a group fits into. */
+/* Unpacking in chunks has to give the same words as unpacking at once. Chunks of each length are tried, and each size
+ * of buffer that a group of packed bytes fits into. */
 static void loops(void) {
     for (size_t piece = 1; piece <= text_size; piece++)
         for (size_t room = 168; room <= 200; room += 8) {

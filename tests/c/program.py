@@ -1,4 +1,5 @@
-"""Answers each call of standard input in the form of the stored answers, by the program that CAPN names.
+"""Reads calls from standard input, and answers them with the command line tool `capn` that CAPN names. The answers have
+the format of the expected answers.
 
 The program can't unpack with a limit of fewer than 2,050 message words. If a call allows fewer words, and the packed
 bytes unpack to more or are rejected, this script answers `?`."""
@@ -8,7 +9,7 @@ import sys
 
 
 def run(words, data):
-    """Returns the status, the output, and the text on standard error."""
+    """Runs `capn`. Returns its status, its output, and its text on standard error."""
     ran = subprocess.run([os.environ["CAPN"], *words], input=data, capture_output=True)
     return ran.returncode, ran.stdout, ran.stderr.decode().removeprefix("capn: ").removesuffix("\n")
 
@@ -18,7 +19,8 @@ def digits(data):
 
 
 def priced(words, data):
-    """Returns the cost of a message as `check` prints it, and whether a bare message is canonical."""
+    """Returns what `capn check` prints: the cost of a message, the number of pointers followed, and whether a bare
+    message is canonical."""
     status, wrote, refusal = run(["check", *words], data)
     if status:
         return None, None, refusal

@@ -1,4 +1,4 @@
-/* An allocator that can be told to fail. Link with -Wl,--wrap=malloc,--wrap=realloc,--wrap=free. */
+/* An allocator that a test can tell to fail. Link with -Wl,--wrap=malloc,--wrap=realloc,--wrap=free. */
 #ifndef CAPN_TESTS_REFUSING_H
 #define CAPN_TESTS_REFUSING_H
 #include <stdlib.h>
@@ -7,8 +7,8 @@ void *__real_malloc(size_t size);
 void *__real_realloc(void *old, size_t size);
 void __real_free(void *block);
 
-/* How many allocations succeed before all others fail (-1 if none fails), how many allocations were made, and how many
- * blocks exist. */
+/* `left` is the number of allocations that succeed before all others fail (-1 if none fails). `asked` is the number of
+ * allocations that were made. `live` is the number of blocks that aren't freed. */
 static long left = -1, asked, live;
 
 static int refuses(void) {

@@ -1,8 +1,8 @@
-/* Tests the comparison of two messages. Some messages are written by hand. The others are pairs of the bytes at the end
- * of lines of standard input, in hexadecimal, in each form and with some limits. Unpacked messages are each compared
- * with all others. The status, the report and `which` must follow from capn_canonical of both messages. capn_same may
- * allocate as often as capn_check does for the messages that capn_same reads. Each of these allocations fails in turn.
- */
+/* Tests capn_same, which compares two messages. Some messages are written by hand. Others are the bytes in hexadecimal
+ * at which each line of standard input ends, in each form (stream, packed and bare) and with some limits. Each of the
+ * unpacked messages is compared with all others. The status, the report and `which` must be as the results of
+ * capn_canonical on the two messages require. capn_same may allocate as often as capn_check does for the messages that
+ * capn_same reads. The test also fails each of these allocations. */
 #define TEST "same"
 #include "refusing.h"
 #include "wanted.h"
@@ -13,7 +13,7 @@ static unsigned long long equal, unequal, refused[2];
 struct input {
     const uint8_t *bytes;
     size_t size;
-    /* What capn_canonical returns for this input, and how often capn_check allocates. */
+    /* The results of capn_canonical for this input, and how often capn_check allocates. */
     capn_status status;
     capn_report report;
     uint8_t *canonical;
@@ -37,7 +37,8 @@ static void judge(struct input *in) {
     in->status = capn_canonical(form, in->bytes, in->size, limits, in->canonical, room, &in->report);
 }
 
-/* Returns the status, the report and `which` that capn_same must give for these two inputs. */
+/* Returns the status that capn_same must return for these two inputs. Sets the expected report and the expected
+ * `which`. */
 static capn_status expected(const struct input *a, const struct input *b, uint32_t *which, capn_report *report) {
     *which = a->status == CAPN_OK && b->status != CAPN_OK;
     const struct input *first = *which ? b : a;
@@ -71,7 +72,8 @@ static void pair(const struct input *a, const struct input *b) {
     else refused[of]++;
 }
 
-/* Fails each allocation in turn: first the allocations for one message, and then those for the other. */
+/* Fails each allocation of capn_same in turn: first the allocations for one message, and then those for the other
+ * message. */
 static void without_memory(const struct input *a, const struct input *b) {
     uint32_t which, of;
     capn_report report, told;
@@ -96,7 +98,7 @@ static void put(uint8_t *to, const uint64_t *words, size_t many) {
     for (size_t i = 0; i < 8 * many; i++) to[i] = (uint8_t)(words[i / 8] >> i % 8 * 8);
 }
 
-/* Compares two messages in both orders, without a table and with the table of one segment. */
+/* Compares two messages in both orders. First they have no segment table, and then they have a table of one segment. */
 static void words(const char *what, const uint64_t *a, size_t many_a, const uint64_t *b, size_t many_b,
                   capn_status wanted) {
     uint8_t one[8 + 128] = {0}, other[8 + 128] = {0};
@@ -157,7 +159,7 @@ static void layouts(void) {
           WORDS(STRUCT(0, 0, 2), STRUCT(1, 1, 0), STRUCT(1, 1, 0), 5, 5), ok);
 }
 
-/* Compares a message in one segment with the same message in two. */
+/* Compares a message in one segment with the same message in two segments. */
 static void segments(void) {
     uint8_t one[24] = {0}, two[48] = {0};
     capn_report report;
@@ -170,7 +172,8 @@ static void segments(void) {
     want("which of neither", which, 0);
 }
 
-/* If the first message is rejected, the second message isn't read. Both messages may be the same bytes. */
+/* If the first message is rejected, capn_same doesn't read the second message. The two messages may be the same bytes
+ * in memory. */
 static void order(void) {
     static const uint8_t null[16] = {0, 0, 0, 0, 1};
     uint8_t holds[16];
@@ -221,7 +224,7 @@ static void store(const char *line, uint8_t *pages) {
     inputs[count++] = (struct input){kept, size, 0, {0, 0, 0, 0, 0, 0}, NULL, 0};
 }
 
-/* Returns a copy of an input at the end of pages. */
+/* Returns a copy of an input. The copy ends where `pages` end. */
 static struct input moved(const struct input *in, uint8_t *pages) {
     struct input out = *in;
     uint8_t *to = at_end(pages, in->size);
@@ -253,7 +256,7 @@ int main(void) {
                 without_memory(&a, &b);
                 without_memory(&a, &a);
                 if (a.status != CAPN_OK) continue;
-                /* A message has the same value as its canonical bytes. */
+                /* capn_same has to find that a message has the same value as the message's canonical bytes. */
                 if (form == CAPN_BARE) {
                     const struct input own = {a.canonical, a.report.length, CAPN_OK, a.report, a.canonical, 0};
                     pair(&a, &own);

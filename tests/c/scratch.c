@@ -1,7 +1,8 @@
-/* Tests canonical bytes with scratch. The messages are written by hand, or are the bytes at the end of lines of
- * standard input, in hexadecimal, in each form and with some limits. If the scratch has as many words as the call
- * needs, or more, the call has to return and report what capn_canonical does. If the scratch has one word less than the
- * call needs, the call has to report again how much scratch it needs. The call must never allocate. */
+/* Tests capn_canonical_with_scratch, which gets scratch memory from the caller. Some messages are written by hand.
+ * Others are the bytes in hexadecimal at which each line of standard input ends, in each form (stream, packed and bare)
+ * and with some limits. If there is enough scratch memory, the call has to return and report what capn_canonical does.
+ * If there is one word less than the call needs, the call has to report again how much it needs. The call must never
+ * allocate. */
 #define TEST "scratch"
 #include "refusing.h"
 #include "wanted.h"
@@ -10,7 +11,7 @@ enum { LINE = 1 << 20, MORE = 3, FILL = 0x55 };
 static unsigned long long answered, refused, lent;
 static uint8_t *bytes_pages, *scratch_pages, *out_pages;
 
-/* The input, the scratch and the buffer end at the end of pages, or a byte before it. */
+/* The input, the scratch memory and the buffer end at the end of a page, or a byte before it. */
 struct given {
     uint32_t form;
     const uint8_t *bytes;
@@ -19,7 +20,7 @@ struct given {
     uint8_t *out;
 };
 
-/* Makes one call while every allocation fails. Unless the call returns CAPN_OK, the buffer must stay unchanged. */
+/* Makes one call while every allocation fails. If the call doesn't return CAPN_OK, the buffer must stay unchanged. */
 static capn_status call(struct given *g, capn_report *report) {
     const capn_report none = {0, 0, 0, 0, 0, 0};
     const size_t long_words = 8 * g->words + g->before, long_room = g->room + g->before;
@@ -52,7 +53,7 @@ static capn_status call(struct given *g, capn_report *report) {
     return status;
 }
 
-/* Tries a buffer of the length that capn_canonical needs, smaller buffers, and a larger one. */
+/* Tries a buffer of exactly the length that capn_canonical reports, smaller buffers, and a larger one. */
 static void rooms(struct given *g, const uint8_t *canonical, const capn_report *wanted) {
     capn_report report;
     const size_t length = wanted->length;
@@ -71,8 +72,8 @@ static void rooms(struct given *g, const uint8_t *canonical, const capn_report *
     g->room = length;
 }
 
-/* Gives the call the scratch that it asks for, until the scratch is enough. The call may ask for more scratch at most
- * twice. If it gets one word less than it asked for, it has to ask for the same scratch again. */
+/* Passes as much scratch memory as the call asks for, until the call has enough. The call may ask for more at most
+ * twice. If the call gets one word less than it asked for, it has to ask for the same number of words again. */
 static void scratches(struct given *g, uint64_t most) {
     capn_report report;
     for (int times = 0; call(g, &report) == CAPN_NO_SCRATCH; times++) {
@@ -115,8 +116,8 @@ static void compare(uint32_t form, const uint8_t *bytes, size_t size, const capn
 
 /* ---- messages that are written by hand */
 
-/* Tests how much scratch a message needs. Its first segment has a zero word, and its other segments have no words. The
- * message is tried packed and unpacked. */
+/* Tests how much scratch memory a message of many segments needs. Its first segment has a zero word, and its other
+ * segments have no words. The message is passed packed and unpacked. */
 static void many(size_t segments) {
     const size_t table = 8 * (segments / 2 + 1), size = table + 8;
     const size_t ends = segments > 64 ? segments - 1 : 0;
@@ -137,7 +138,7 @@ static void many(size_t segments) {
     free(text);
 }
 
-/* The form, the limits and the tariff are tested before anything is read or written. */
+/* The call tests the form, the limits and the counting rule (tariff) before it reads or writes anything. */
 static void order(void) {
     uint8_t *closed = mmap(NULL, PAGE, PROT_NONE, MAP_PRIVATE | MAP_ANONYMOUS, -1, 0);
     const capn_limits none = limits_of(0, 1, 1, CAPN_STRICT), third = limits_of(1, 1, 1, 2);

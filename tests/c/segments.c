@@ -1,8 +1,9 @@
-/* Tests the calls for a message in segments. Each call must return what the call without `_segments` returns for the
- * stream of the same segments. The streams are the bytes at the end of each line of standard input, in hexadecimal, and
- * copies of them with some bytes changed, by a fixed seed. Each segment is copied alone to an odd address. The last
- * segment ends at the end of a page, before a page that can't be accessed. Then come segments that no stream has.
- * Finally every allocation fails for the calls that need no memory. */
+/* Tests the calls whose names end in `_segments`, which take the segments of a message. Each call must return what the
+ * call without `_segments` returns for the stream of the same segments. Each line of standard input ends with the bytes
+ * of a stream, in hexadecimal. The streams are these bytes, and copies of them with some bytes changed, by a fixed
+ * seed. Each segment is copied alone to an odd address. The last segment ends at the end of a page, before a page that
+ * can't be accessed. Then the test passes segments that no stream has. Finally it makes the calls that need no memory
+ * while every allocation fails. */
 #define TEST "segments"
 #include "refusing.h"
 #include "wanted.h"
@@ -11,7 +12,8 @@ enum { MOST = 4096, ROUNDS = 40 };
 static uint8_t *guarded;
 static unsigned long long held_messages, accepted_messages, several;
 
-/* Both calls must return the same status, and write the same report and the same bytes. */
+/* The call for segments and the call for the stream must return the same status, and write the same report and the same
+ * bytes. */
 static void same(const char *what, capn_status status, capn_status wanted, const capn_report *report,
                  const capn_report *told, const void *left, const void *right, size_t size) {
     want(what, status, wanted);
@@ -54,7 +56,7 @@ static void compare(const capn_segment *segments, size_t count, const uint8_t *f
         wanted = capn_canonical(CAPN_STREAM, frame, size, limits, other, room, &told);
         same("canonical", status, wanted, &report, &told, out, other, room);
         if (status > CAPN_NO_ROOM) break;
-        /* the second buffer has exactly the length, and the third has one byte less */
+        /* the buffer has exactly the length in the second round, and one byte less in the third */
         room = round ? told.length - 1 : told.length;
     }
     free(out);
@@ -65,7 +67,8 @@ static uint32_t number(const uint8_t *at) {
     return at[0] | (uint32_t)at[1] << 8 | (uint32_t)at[2] << 16 | (uint32_t)at[3] << 24;
 }
 
-/* If the bytes are one message, copies each of its segments alone, and compares the calls. */
+/* If the bytes are exactly one message, copies each of its segments alone. Then compares the calls on the segments with
+ * the calls on the bytes. */
 static void held(const uint8_t *frame, size_t size, const capn_limits *limits) {
     if (size < 8 || number(frame) >= MOST) return;
     const size_t count = (size_t)number(frame) + 1, head = 8 * (count / 2 + 1);
@@ -96,7 +99,7 @@ static void held(const uint8_t *frame, size_t size, const capn_limits *limits) {
     for (size_t i = 0; i < made; i++) free(blocks[i]);
 }
 
-/* Tries segments that no stream has, and segments that only a long stream has. */
+/* Passes segments that no stream has, and as many segments as only a long stream has. */
 static void borders(void) {
     static const uint8_t words[8 * 1024];
     static capn_segment segments[MOST + 1];
@@ -146,7 +149,8 @@ static void borders(void) {
     want("no tariff", capn_canonical_segments(segments, 1, &other, out, 32, &report), CAPN_BAD_TARIFF);
 }
 
-/* A pointer in one segment leads to a struct in the next segment. Only the call for a digest allocates. */
+/* Makes the calls for segments while every allocation fails. The message has a pointer in one segment that leads to a
+ * struct in the next segment. Only the call for a digest allocates, so only that call fails. */
 static void without_memory(void) {
     uint8_t far[8] = {2, 0, 0, 0, 1}, object[16] = {0, 0, 0, 0, 1, 0, 0, 0, 5}, out[32];
     const capn_segment segments[] = {{far, 1}, {object, 2}};

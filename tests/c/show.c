@@ -1,7 +1,7 @@
-/* Tests capn_show. With the word `answers`, each line of standard input is a stored run of `show`. The program prints
- * the library's output for the bytes of the run in the form of the stored outputs. With the word `agrees`, it compares
- * capn_show with capn_check on the bytes at the end of each line, in each form and style. Each allocation fails once.
- */
+/* Tests capn_show. With the argument `answers`, each line of standard input is a stored run of `capn show`. The program
+ * prints the library's output for the bytes of the run, in the format of the stored outputs. With the argument
+ * `agrees`, it compares capn_show with capn_check on the bytes at the end of each line, in each form and style. It also
+ * fails each allocation of capn_show once. */
 #define TEST "show"
 #include "refusing.h"
 #include "wanted.h"
@@ -40,8 +40,8 @@ static int is_untouched(const char *out, size_t size) {
     return 1;
 }
 
-/* Returns the dump of a message, or NULL. It calls capn_show with buffers of size 0, of exactly the length, and of a
- * byte more and less. */
+/* Returns the dump of a message, or NULL if the message is rejected. It calls capn_show with a buffer of size 0, with a
+ * buffer of exactly the length, and with buffers of one byte more and less. */
 static char *text_of(const struct input *in, size_t *length, capn_status *status, capn_report *report) {
     *status = show(in, NULL, 0, report);
     if (*status != CAPN_NO_ROOM) {
@@ -72,7 +72,8 @@ static char *text_of(const struct input *in, size_t *length, capn_status *status
     return text;
 }
 
-/* Calls capn_show while each of its allocations fails in turn. With enough memory, the call has to return `wanted`. */
+/* Calls capn_show while one of its allocations fails, for each allocation in turn. When no allocation fails, the call
+ * has to return `wanted`. */
 static void refuse_each(const struct input *in, capn_status wanted) {
     capn_status status = CAPN_MEMORY;
     const long before = live;
@@ -112,8 +113,8 @@ static void agrees(uint32_t form, const uint8_t *bytes, size_t size, const capn_
     }
 }
 
-/* Prints the dumps of the messages of a stream, or the dump of one packed or bare message. Then prints how the run
- * ends. */
+/* Prints what `capn show` prints: the dumps of the messages of a stream, or the dump of one packed or bare message.
+ * Then prints the exit status or the error. */
 static void answer(char *line) {
     char *word[16], text[128];
     int count = 0;
@@ -133,7 +134,7 @@ static void answer(char *line) {
     size_t texts_length = 0;
     capn_status status = CAPN_OK;
     capn_report report;
-    /* Unpacks the packed bytes first if they have several messages. */
+    /* capn_show takes one packed message. If the packed bytes have several messages, unpacks them first. */
     if (in.form == CAPN_PACKED && show(&in, NULL, 0, &report) == CAPN_TRAILING) {
         capn_unpack(in.bytes, size, 1u << 20, NULL, 0, &report);
         size = report.length;

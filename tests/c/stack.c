@@ -13,7 +13,7 @@
 
 enum { ROOM = 1 << 20 };
 enum { MOST_SEGMENTS = 66, CALLS = 30, KINDS = 4 };
-/* The calls that have a bound of their own, and the bytes of each level of depth. */
+/* The calls that have their own bound on the stack for each level of depth. `levels` has these bounds in bytes. */
 static const char *const names[KINDS] = {"", "capn_show ", "capn_index ", "capn_same "};
 static size_t base, levels[KINDS];
 static uint8_t in[8 * 4096], framed[8 * 4096 + 1024], text[ROOM], scratch[ROOM];
@@ -30,7 +30,8 @@ static void put(size_t at, uint32_t low, uint32_t high) {
     }
 }
 
-/* Finds the path to an object that is one level too deep, or to the object at which the traversal limit is reached. */
+/* Finds the path to an error. The error is an object that is one level too deep, or the object at which the traversal
+ * limit is exceeded. */
 static capn_status led(uint32_t form, const uint8_t *bytes, size_t count) {
     const uint32_t most = depth > 1 ? depth - 1 : 1;
     const capn_limits limits = limits_of(1u << 28, depth > 1 ? 1u << 28 : 0, most, CAPN_PLAIN);
@@ -93,12 +94,13 @@ static void *run(void *status) {
     return NULL;
 }
 
-/* Writes a number of 4 bytes into the segment table. */
+/* Writes a number of 4 bytes into the segment table of the message. */
 static void put_entry(size_t at, uint32_t number) {
     for (int i = 0; i < 4; i++) framed[4 * at + i] = (uint8_t)(number >> 8 * i);
 }
 
-/* Cuts the message into segments, and writes it with a table. Each segment after the first has one word. */
+/* Splits the message into segments, and writes the segments with a segment table. Each segment after the first has one
+ * word. */
 static void cut(void) {
     const size_t table = 8 * (segments / 2 + 1);
     memset(framed, 0, sizeof framed);
@@ -122,9 +124,9 @@ int main(int count, char **words) {
             static const uint32_t counts[] = {1, 2, MOST_SEGMENTS};
             depth = depths[d];
             segments = counts[kind / 8];
-            /* An object has one or two pointers. There are four shapes of objects: a struct, a list of pointers, a list
-             * of structs with one pointer each, and a struct behind a far pointer. The first pointer of an object leads
-             * to the next object. The second pointer refers to an empty struct. */
+            /* Each message is a chain of objects with one or two pointers. There are four shapes of objects: a struct,
+             * a list of pointers, a list of structs with one pointer each, and a struct behind a far pointer. The first
+             * pointer of an object refers to the next object. The second pointer refers to an empty struct. */
             int is_wide = kind % 8 > 3, shape = kind % 4;
             uint32_t many = is_wide ? 2 : 1, down = 0;
             size_t at = 0;

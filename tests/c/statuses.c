@@ -1,5 +1,6 @@
-/* Provokes each status of capn.h, and tests that the calls agree on it. Prints the numbers of the statuses that were
- * returned, in order, so that they can be compared with the header. */
+/* Makes capn.h return each of its statuses, and tests that all calls agree on the status of an input. Prints the
+ * numbers of the statuses that were returned, in order. `tests/c/run` compares these numbers with those of the
+ * header. */
 #include "refusing.h"
 #include "usual.h"
 #include <stdio.h>
@@ -8,22 +9,22 @@
 
 static int failed, came[256];
 
-/* Compares a number with the expected number. */
+/* Fails the test if a number isn't the expected number. */
 static void want(const char *what, uint64_t number, uint64_t wanted) {
     if (number == wanted) return;
     failed++;
     fprintf(stderr, "statuses: %s: %llu, wanted %llu\n", what, (unsigned long long)number, (unsigned long long)wanted);
 }
 
-/* Compares the returned status with the expected status. */
+/* Fails the test if the returned status isn't the expected status. */
 static void is(const char *what, capn_status status, capn_status wanted) {
     if (status < 256) came[status] = 1;
     want(what, status, wanted);
 }
 
-/* Makes each call on some bytes. capn_canonical is called with a buffer, without a buffer, and with scratch. capn_index
- * is left out if the bytes are packed. If the value has a capability, only capn_canonical, capn_hash and capn_same
- * report it. */
+/* Makes each call on some bytes. capn_canonical is called with a buffer and without a buffer, and
+ * capn_canonical_with_scratch with scratch memory. capn_index is left out if the bytes are packed. If the message has a
+ * capability, only capn_canonical, capn_hash and capn_same report it. */
 static capn_report each_call(const char *what, uint32_t form, const void *bytes, size_t size, const capn_limits *limits,
                              uint32_t wanted) {
     capn_report checked, report;
@@ -48,15 +49,15 @@ static capn_report each_call(const char *what, uint32_t form, const void *bytes,
     want("which is refused", which, 0);
     is(what, capn_canonical(form, bytes, size, limits, out, 64, &report), wanted);
     is(what, capn_canonical(form, bytes, size, limits, NULL, 0, &report), wanted == CAPN_OK ? CAPN_NO_ROOM : wanted);
-    /* The scratch is enough for these messages, so this call succeeds even if allocations fail. */
+    /* There is enough scratch memory for these messages, so this call succeeds even if allocations fail. */
     uint64_t scratch[128];
     const capn_status lent = wanted == CAPN_MEMORY ? CAPN_OK : wanted;
     is(what, capn_canonical_with_scratch(form, bytes, size, limits, scratch, 128, out, 64, &report), lent);
     return wanted == CAPN_CAPABILITY ? report : checked;
 }
 
-/* Makes each call on words without a table, after the table of one segment, and after the table of two segments. The
- * second of two segments has no words. The messages with a table are also packed. */
+/* Makes each call on some words: without a segment table, after a table of one segment, and after a table of two
+ * segments. The second of the two segments has no words. The messages with a table are also packed. */
 static void walks(const char *what, const uint64_t *words, size_t count, const capn_limits *limits, uint32_t wanted,
                   uint32_t word) {
     uint8_t bytes[32], text[64];
@@ -77,7 +78,7 @@ static void walks(const char *what, const uint64_t *words, size_t count, const c
     }
 }
 
-/* Provokes the errors of pointers, and the error of a capability. */
+/* Makes the calls return the errors of pointers, and the error of a capability. */
 static void walked(void) {
     const capn_limits shallow = limits_of(3, 100, 1, CAPN_STRICT), poor = limits_of(3, 1, 64, CAPN_STRICT);
     const uint64_t null = 0, capability = 3, reserved = 7, far = 2 | 9ull << 32, beyond = 2 | 9 << 3;
@@ -100,7 +101,8 @@ static void walked(void) {
     walks("a null root", &null, 1, &usual, CAPN_OK, 0);
 }
 
-/* Provokes the errors of packed bytes and of the segment table, with their numbers. */
+/* Makes the calls return the errors of packed bytes and of the segment table. Tests the number in the report of each
+ * error. */
 static void read_as(const char *what, uint32_t form, const void *bytes, size_t size, const capn_limits *limits,
                     uint32_t wanted, uint64_t at) {
     capn_report told = each_call(what, form, bytes, size, limits, wanted);
@@ -124,7 +126,7 @@ static void reading(void) {
     read_as("2 words", CAPN_STREAM, "\0\0\0\0\2\0\0", 8, &one, CAPN_TOO_MANY_WORDS, 2);
     read_as("a cut frame", CAPN_STREAM, message, 15, &usual, CAPN_FRAME_CUT, 0);
     read_as("bytes after the frame", CAPN_STREAM, message, 24, &usual, CAPN_TRAILING, 16);
-    /* The offset is 24 in the unpacked bytes. The message has 8 packed bytes. */
+    /* The reported offset is 24, in the unpacked bytes. The packed message has 8 bytes. */
     read_as("words after a packed frame", CAPN_PACKED, "\x10\2\x10\1\1\5\0", 8, &usual, CAPN_TRAILING, 24);
     read_as("a packed frame of too many segments", CAPN_PACKED, "\3\0\x10", 3, &usual, CAPN_TOO_MANY_SEGMENTS, 4097);
     read_as("a packed frame that is cut", CAPN_PACKED, "\x10\2\x10\1", 4, &usual, CAPN_FRAME_CUT, 0);
@@ -136,12 +138,12 @@ static void reading(void) {
     want("its offset", report.at, 2);
 }
 
-/* Passes packed bytes that unpack to more words than one message and the longest table may have. Then passes more words
- * than a message without a table may have. The call reads none of these words. */
+/* Passes packed bytes that unpack to more words than one message with the longest segment table may have. Then passes
+ * more words than a message without a table may have. The call can't read any of these words. */
 static void too_long(void) {
     const capn_limits one = limits_of(1, 1, 1, CAPN_STRICT);
     uint8_t zeros[18];
-    for (int i = 0; i < 18; i++) zeros[i] = i % 2 ? 255 : 0; /* 9 runs of 256 zero words */
+    for (int i = 0; i < 18; i++) zeros[i] = i % 2 ? 255 : 0; /* 9 runs of 256 zero words, packed */
     read_as("2,304 packed words", CAPN_PACKED, zeros, 18, &one, CAPN_PACKED_TOO_LONG, 16);
     size_t words = (1u << 28) + 2;
     void *bytes = mmap(NULL, 8 * words, PROT_NONE, MAP_PRIVATE | MAP_ANONYMOUS | MAP_NORESERVE, -1, 0);
@@ -153,7 +155,8 @@ static void too_long(void) {
     munmap(bytes, 8 * words);
 }
 
-/* Provokes the errors of arguments, of a buffer that is too small, and of bytes that aren't canonical. */
+/* Makes the calls return the errors of arguments, the error of a buffer that is too small, and the error of bytes that
+ * aren't canonical. */
 static void called(void) {
     const uint8_t message[24] = {0, 0, 0, 0, 2, 0, 0, 0, 0, 0, 0, 0, 1, 0, 0, 0, 0};
     const capn_limits none = limits_of(0, 1, 1, CAPN_STRICT), third = limits_of(1, 1, 1, 2);
@@ -179,9 +182,9 @@ static void called(void) {
     is("a struct with a zero word", capn_is_canonical(message + 8, 16, &usual, &report), CAPN_NOT_CANONICAL);
 }
 
-/* Without memory, a stream of 65 segments and packed bytes give CAPN_MEMORY, and so do calls that hash, pack and
- * unpack. The canonical bytes and the index of a message in one or two segments need no memory. The digest of canonical
- * bytes needs none, either. */
+/* Makes calls while every allocation fails. A stream of 65 segments and packed bytes give CAPN_MEMORY, and so do calls
+ * that hash, pack and unpack. The canonical bytes and the index of a message in one or two segments need no memory. The
+ * digest of canonical bytes needs no memory either. */
 static void without_memory(void) {
     const uint8_t many[272] = {64, 0, 0, 0, 1}, two[24] = {1, 0, 0, 0, 1}, packed[9] = {0x10, 1, 0, 0};
     const uint8_t loose[16] = {0, 0, 0, 0, 1};

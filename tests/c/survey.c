@@ -1,13 +1,13 @@
-/* Tests capn_survey on messages that are written by hand and on invalid messages, and compares it with the other calls.
- * The message lies at any address, next to a page that can't be accessed. */
+/* Tests capn_survey, which returns statistics of a message. The messages are written by hand, and some are invalid. The
+ * results are compared with the other calls. The message lies at any address, next to a page that can't be accessed. */
 #define TEST "survey"
 #include "wanted.h"
 
 static uint8_t *guarded;
 
-/* Surveys words without a table, after the table of one segment, and after the table of three segments. Two of the
- * three segments have no words. The figures have to be the expected ones, except that a message of three segments isn't
- * canonical. */
+/* Calls capn_survey on words without a segment table, after a table of one segment, and after a table of three
+ * segments. Two of the three segments have no words. The statistics have to be the expected ones, but a message of
+ * three segments isn't canonical. */
 static void figures(const char *what, const uint64_t *words, uint32_t count, capn_figures wanted) {
     for (uint32_t segments = 0; segments <= 3; segments += segments == 0 ? 1 : 2) {
         size_t table = segments == 0 ? 0 : 8 * (segments / 2 + 1), size = table + 8 * count;
@@ -43,7 +43,7 @@ static void figures(const char *what, const uint64_t *words, uint32_t count, cap
             want("as check says", capn_check(form, in, size, &lower, &checked), status);
             want("its report", memcmp(&r, &checked, sizeof r) != 0, 0);
         }
-        /* Surveys the same message after it was packed. */
+        /* Calls capn_survey on the same message in packed form. */
         if (segments) {
             uint8_t text[128];
             capn_figures same = {0, 0, 0, 0, 0, 0, 0, 0};
@@ -53,7 +53,7 @@ static void figures(const char *what, const uint64_t *words, uint32_t count, cap
             want("the same", memcmp(&same, &f, sizeof f) != 0, 0);
             want("its report", r.paid != f.paid || r.visits != f.visits || r.length || r.at || r.segment || r.word, 0);
         }
-        /* Surveys the same message at each address. */
+        /* Calls capn_survey on the same message at each other address. */
         for (size_t off = 1; off < 8; off++) {
             uint8_t *odd = memmove(in - off, in, size);
             capn_figures same = {0, 0, 0, 0, 0, 0, 0, 0};
@@ -64,7 +64,7 @@ static void figures(const char *what, const uint64_t *words, uint32_t count, cap
     }
 }
 
-/* An error leaves the figures unchanged. */
+/* If capn_survey returns an error, it must leave the statistics unchanged. */
 static void refused(const char *what, uint32_t form, const void *bytes, size_t size, const capn_limits *limits,
                     capn_status wanted) {
     capn_figures f, was;

@@ -1,5 +1,5 @@
-/* Tests the text of an error with each size of buffer, and the name of each status. A line of standard input has a
- * number and a name. `vectors.c` prints the texts of all stored errors. */
+/* Tests the text of an error with each size of buffer, and the name of each status. Each line of standard input has the
+ * number and the name of a status. `vectors.c` prints the texts of all errors in the test vectors. */
 #include "capn.h"
 #include <stdio.h>
 #include <stdlib.h>
@@ -12,8 +12,8 @@ static void broken(const char *what, const char *text) {
     fprintf(stderr, "texts: %s: %s\n", what, text);
 }
 
-/* In each buffer the text is cut to the buffer's size, and ends with a zero byte. Nothing after the buffer is written.
- * The returned length is the length of the whole text. */
+/* Tests the text of an error in buffers of each size. In a small buffer the text is cut, and it always ends with a zero
+ * byte. No byte after the buffer is written. The returned length is always the length of the whole text. */
 static void is(capn_status status, const capn_report *report, const char *wanted) {
     const size_t length = strlen(wanted);
     if (capn_refusal_text(status, report, NULL, 0) != length) broken("another length without room", wanted);

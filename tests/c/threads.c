@@ -1,5 +1,5 @@
-/* Tests simultaneous calls. Threads that start together make every call on the same input, with buffers of their own.
- * Each thread must get the results that a single thread gets. */
+/* Tests simultaneous calls. Threads that start together make every call of capn.h on the same input, with buffers of
+ * their own. Each thread must get the results that a single thread gets. */
 #include "usual.h"
 #include <pthread.h>
 #include <stdio.h>
@@ -11,12 +11,12 @@
 #endif
 enum { DEPTH = 200, WORDS = 2 * DEPTH, ROOM = 16 * WORDS, CALLS = 18 };
 static capn_limits limits;
-/* A chain of structs in two segments, and the same message packed. Each struct has two pointers, and refers to the next
- * struct. */
+/* The message is a chain of structs in two segments. Each struct has two pointers, and its first pointer refers to the
+ * next struct. `packed` is the same message, packed. */
 static uint8_t stream[16 + 8 * WORDS], packed[10 * (WORDS + 2)];
 static size_t packed_size;
 
-/* The statuses, reports and buffers that the calls return and write. */
+/* The statuses, the reports and the written bytes of all calls of a thread. */
 typedef struct answers {
     capn_status status[CALLS];
     capn_report report[CALLS];
@@ -76,7 +76,8 @@ int main(void) {
     stream[5] = WORDS >> 8;
     for (size_t i = 0; i < DEPTH; i++) {
         uint8_t *slot = stream + 16 + (i ? 8 * (2 * i - 1) : 0);
-        /* the offset 1, because the second pointer of the struct lies between the first pointer and the next struct */
+        /* The first pointer of a struct has the offset 1, because the second pointer lies between it and the next
+         * struct. */
         slot[0] = i ? 4 : 0;
         slot[i + 1 < DEPTH ? 6 : 4] = i + 1 < DEPTH ? 2 : 1;
     }

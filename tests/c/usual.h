@@ -1,5 +1,5 @@
-/* The limits that the programs of this folder pass: the defaults, or the defaults with some limits changed. Whenever
- * the library gets another limit, `usual` and limits_of get the default of this limit. */
+/* The limits that the programs of tests/c pass: the default limits, or the default limits with some numbers changed. If
+ * capn.h gets a new limit, these programs pass the default of that limit. */
 #ifndef CAPN_TESTS_USUAL_H
 #define CAPN_TESTS_USUAL_H
 #include "capn.h"

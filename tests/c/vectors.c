@@ -1,5 +1,5 @@
-/* Makes the calls of standard input, and prints the results in the form of the stored answers. The calls are
- * canonicalise, is_canonical, survey, pack, unpack, and run N hash. Bytes are in hexadecimal, and `-` stands for no
+/* Reads calls from standard input, makes them, and prints the results in the format of the expected answers. The calls
+ * are canonicalise, is_canonical, survey, pack, unpack, and run N hash. Bytes are in hexadecimal, and `-` stands for no
  * bytes. */
 #include "examples/each.h"
 #include <stdio.h>
@@ -23,7 +23,7 @@ static void digits(const uint8_t *bytes, size_t size) {
     for (size_t i = 0; i < size; i++) printf("%02x", bytes[i]);
 }
 
-/* Prints the text of an error. If the error is one of packing or unpacking, leaves the form out of the text. */
+/* Prints the text of an error. If the error is one of packing or unpacking, the name of the form is left out. */
 static void refusal(capn_status status, const capn_report *r, int of_packing) {
     char text[128];
     if (capn_refusal_text(status, r, text, sizeof text) >= sizeof text) printf("a text that is too long: ");
@@ -39,7 +39,8 @@ static void fail(const char *why) {
     printf("broken: %s", why);
 }
 
-/* A call that writes to a buffer. It is made with a buffer of size 0, of exactly the length, and of one byte less. */
+/* A function that makes a call which writes to a buffer. The test passes buffers of size 0, of exactly the length, and
+ * of one byte less. */
 typedef capn_status into(const void *call, uint8_t *out, size_t room, capn_report *report);
 
 static void with_rooms(into *make, const void *call, int is_measured, int is_priced) {
@@ -93,8 +94,8 @@ static capn_status unpacked(const void *at, uint8_t *out, size_t room, capn_repo
     return capn_unpack(call->bytes, call->size, call->most, out, room, report);
 }
 
-/* Prints the digests of the messages of a stream, or the digest of one packed or bare message, in hexadecimal. Then
- * prints how the run ends. */
+/* Prints what `capn hash` prints, in hexadecimal: the digests of the messages of a stream, or the digest of one packed
+ * or bare message. Then prints the exit status and the error. */
 static void hashed(const struct call *call) {
     char *lines = calloc(call->size + 1, 65);
     size_t lines_length = 0, taken;

@@ -1,8 +1,10 @@
-/* Tests the calls that report paths. With the word `answers`, it makes capn_refusal_way or capn_departure on the bytes
- * of each call of standard input that has limits, and prints a line of what the call reports. It prints `?` if the
- * bytes aren't one message. With the word `agrees`, it makes both calls on the bytes at the end of each line, in each
- * form and with some limits. The array has exactly the length of the path, is longer, is shorter, or is missing. The
- * results are compared with capn_check, capn_survey and capn_canonical, and each allocation fails once. */
+/* Tests capn_refusal_way, which finds the path to an error, and capn_departure, which finds the first difference from
+ * the canonical form. With the argument `answers`, it reads calls from standard input. For each call that has limits,
+ * it makes capn_refusal_way or capn_departure on the same bytes, and prints a line of what the call reports. It prints
+ * `?` if the bytes aren't one message. With the argument `agrees`, it makes both calls on the bytes at the end of each
+ * line, in each form and with some limits. The array for the path has exactly the length of the path, is longer, is
+ * shorter, or is missing. The results are compared with capn_check, capn_survey and capn_canonical. The test also fails
+ * each allocation once. */
 #define TEST "ways"
 #include "refusing.h"
 #include "wanted.h"
@@ -50,7 +52,7 @@ static capn_status departure(const struct input *in, capn_departed *departed, si
     return capn_departure(in->form, in->bytes, in->size, &in->limits, departed, most ? way : NULL, most, report);
 }
 
-/* Tests that the numbers of the array from number `from` on are unchanged. */
+/* Tests that the array for the path is unchanged from the element `from` on. */
 static void kept(const char *what, size_t from) {
     for (size_t i = from; i <= MOST; i++)
         if (way[i] != FILL) {
@@ -59,8 +61,8 @@ static void kept(const char *what, size_t from) {
         }
 }
 
-/* The call writes a path only if the path fits into the array. What the call returns and reports must not depend on the
- * size of the array. */
+/* Tests arrays of several sizes. The call writes a path only if it fits into the array. The status and the report must
+ * not depend on the size of the array. */
 static void rooms(call *make, const struct input *in, capn_status status, const capn_report *told, size_t numbers) {
     static uint32_t all[MOST];
     capn_departed first, other;
@@ -79,7 +81,7 @@ static void rooms(call *make, const struct input *in, capn_status status, const 
     }
 }
 
-/* Makes the same call while each allocation fails in turn. */
+/* Makes the same call while one of its allocations fails, for each allocation in turn. */
 static void refuse_each(call *make, const struct input *in, capn_status wanted) {
     capn_status status = CAPN_MEMORY;
     const capn_report none = {0, 0, 0, 0, 0, 0};
@@ -108,8 +110,8 @@ static uint64_t word_at(const uint8_t *bytes, size_t word) {
     return number;
 }
 
-/* The summary of the message gives the expected kind. For a message of one segment, the first word that differs has to
- * be right, too. */
+/* Compares the result of capn_departure with capn_survey. If the message has one segment, also tests the first word
+ * that differs. */
 static void compare(const struct input *in, const capn_departed *d) {
     capn_figures f;
     capn_report r;
@@ -227,7 +229,7 @@ static void answer(const struct input *in) {
     }
 }
 
-/* Returns whether a line is a call that has limits. If it is, sets the input to the bytes of the call. */
+/* Returns whether a line is a call that has limits. If so, sets the input to the bytes and limits of the call. */
 static int is_call(const char *from, struct input *in) {
     char what[16], form[16];
     int at = 0;

@@ -1,5 +1,6 @@
-"""Answers each call of standard input that has limits in the form of `ways answers`. It takes the path to an error, and
-the first difference from the canonical form, from the output of `explain`. CAPN names the program."""
+"""Reads calls from standard input, and answers each call that has limits with the command line tool `capn` that CAPN
+names. The answers have the format of `ways answers` (see ways.c). The path to an error, or the first difference from
+the canonical form, comes from the output of `capn explain`."""
 import os
 import re
 import subprocess
@@ -12,7 +13,7 @@ DIFFERS = re.compile(
 
 
 def departure(value):
-    """Returns the content of the line `canonical`, in the words of `ways answers`."""
+    """Returns the value of the line `canonical` of `capn explain`, in the format of `ways answers`."""
     if value == "yes":
         return value
     differs = DIFFERS.fullmatch(value)
@@ -23,7 +24,7 @@ def departure(value):
 
 
 def told(lines):
-    """Returns what these lines of `explain` say. Returns `?` if the bytes can't be read."""
+    """Returns the answer for some lines of `capn explain`. Returns `?` if the bytes can't be read."""
     values = dict(line.split(": ", 1) for line in lines if ": " in line)
     if "way" in values:
         return f"way {values['way']}"
