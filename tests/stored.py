@@ -1,4 +1,5 @@
-"""The stored cases of `conformance_calls` and `conformance_runs`. Each call has a file.
+"""The stored test cases of the crates `conformance_calls` and `conformance_runs`. The cases of each call are in a file
+of their own.
 
 The file `crates/CRATE/cases/CALL` has the cases of a call. A case has three lines: its name in words, the call, and the
 answer. A blank line stands between two cases. CALL is the first word of the call, or the second after `plain`. The
@@ -18,13 +19,14 @@ Case = collections.namedtuple("Case", "crate path name call answer")
 
 
 def word_of(call):
-    """Returns the word that names the call."""
+    """Returns the name of a call: the first word of its line, or the word after `plain`."""
     words = call.split(" ")
     return words[1] if words[0] == "plain" and len(words) > 1 else words[0]
 
 
 def key_of(name):
-    """Returns the key of a case: its name as one word. The cases of a file are in the order of their keys."""
+    """Returns the key of a case, which is the case's name as one word. The cases of a file are in the order of their
+    keys."""
     return name.translate(WITHOUT)
 
 
@@ -57,7 +59,8 @@ def cases_of(crate):
 
 
 def all_cases():
-    """Returns the cases of both crates. Raises ValueError if two cases have the same name."""
+    """Returns the cases of `conformance_calls` and of `conformance_runs`. Raises ValueError if two cases have the same
+    name."""
     found = [case for crate in CRATES for case in cases_of(crate)]
     for name, count in collections.Counter(case.name for case in found).items():
         if count > 1:
@@ -66,10 +69,10 @@ def all_cases():
 
 
 def asked(cases, before=""):
-    """Returns the input of these cases. The text `before` stands before each call."""
+    """Returns the input for a program that answers these cases. The text `before` stands before each call."""
     return "".join(f"{case.name}\n{before}{case.call}\n" for case in cases)
 
 
 def answered(cases):
-    """Returns the output of these cases."""
+    """Returns the output that a program has to give for these cases."""
     return "".join(f"{case.name}\n{case.answer}\n" for case in cases)

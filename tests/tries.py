@@ -1,5 +1,5 @@
-"""Runs tests and stored runs without a proof, with `rt try`, several crates at once. tests/of and tests/quick use
-it."""
+"""Runs tests, stored test cases and stored runs with `rt try`, which proves nothing. Several crates run at once.
+tests/of and tests/quick use this module."""
 
 import collections
 import concurrent.futures
@@ -19,20 +19,21 @@ sys.path.insert(0, os.path.join(TOP, ".ci"))
 import proving
 
 LOG = "build/tries.log"
-# How many GiB one run of `rt try` uses at most, for its compiler and the check of names that runs beside it.
+# The greatest number of GiB that one run of `rt try` uses. This includes its compiler and the check of names that runs
+# beside it.
 MEMORY = 2
-# The number of cases in one run of the program. If a case ends the program, the remaining cases of its run aren't
-# tried, so the number is small.
+# The number of test cases that one run of a program gets. If a case ends the program, the remaining cases of the run
+# aren't tried, so the number is small.
 AT_ONCE = 40
-# How many seconds one run of the program may take, even on a busy machine.
+# The number of seconds that one run of a program may take, even on a busy machine.
 SECONDS = 1200
-# How many lines of a crate's errors are printed at most: ten cases.
+# The greatest number of lines of errors that are printed for a crate. They are enough for ten cases.
 MOST_LINES = 40
 
-# A job of a crate. A job has the name of the crate, a word that says what is tried, and a function that returns the
+# A job tests a crate. It has the name of the crate, a word that says what is tested, and a function that returns the
 # errors and the output.
 Job = collections.namedtuple("Job", "crate what run")
-# A function that a crate exports. The crate of the calls of c/capn.h is `c`.
+# An exported function, and the crate that exports it. For the calls of c/capn.h, the name of the crate is `c`.
 Function = collections.namedtuple("Function", "crate name")
 
 
@@ -42,7 +43,7 @@ def text_of(*parts):
 
 
 def tests_of(crate):
-    """Returns the names of the tests of a crate."""
+    """Returns the names of the test functions of a crate."""
     found = []
     for folder, _, names in os.walk(os.path.join(TOP, "crates", crate, "src")):
         for name in sorted(names):
@@ -51,8 +52,8 @@ def tests_of(crate):
 
 
 def modules_of_calls(crate):
-    """Returns the modules that answer each call of a crate with cases: the module of the call, and the modules
-    that this module uses."""
+    """Returns the modules that answer each call of a crate with test cases. For each call, these are the module of the
+    call and the modules that this module uses."""
     folder = os.path.join(TOP, "crates", crate, "src")
     modules = {name[:-3]: text_of("crates", crate, "src", name) for name in os.listdir(folder)}
 
@@ -67,15 +68,15 @@ def modules_of_calls(crate):
 
 
 def crates_of_calls(crate):
-    """Yields each call of a crate with cases, and the libraries that its answer depends on. These are the libraries
-    that the modules of the call name."""
+    """Yields each call of a crate with test cases, and the crates that the answer to the call depends on. These are the
+    crates that the modules of the call name."""
     for word, used in modules_of_calls(crate).items():
         texts = [text_of("crates", crate, "src", f"{one}.rt") for one in used]
         yield word, {name for text in texts for name in re.findall(r"^use (capn_\w+)", text, re.M)}
 
 
 def try_crate(crate, words, given=b""):
-    """Runs `rt try`. Returns its status, its output, and its standard error."""
+    """Runs `rt try`. Returns its exit status, its output, and its error output."""
     folder = os.path.join(TOP, "crates", crate)
     done = subprocess.run(["rt", "try", *words], cwd=folder, input=given, capture_output=True)
     return done.returncode, done.stdout, done.stderr.decode(errors="replace")
@@ -94,7 +95,7 @@ def tests_job(crate):
 
 
 def bytes_beside(crate, name):
-    """Returns the bytes of a file beside the src/ of a program. If the file doesn't exist, returns no bytes."""
+    """Returns the bytes of a file in a program's folder. If the file doesn't exist, returns no bytes."""
     path = os.path.join(TOP, "crates", crate, name)
     if not os.path.exists(path):
         return b""
@@ -103,7 +104,8 @@ def bytes_beside(crate, name):
 
 
 def stored_job(crate):
-    """Tries the stored run of a program. Its input and output lie beside the program's src/."""
+    """Runs a program on its stored input, and compares the output with the stored output. The input and the output are
+    files in the program's folder."""
 
     def run():
         args, given, wanted = (bytes_beside(crate, name) for name in ("args", "stdin", "stdout"))
@@ -116,14 +118,14 @@ def stored_job(crate):
 
 
 def shown(text, at=0):
-    """Returns a text. If the text is long, returns the part around a place."""
+    """Returns a text that may be shortened. Of a long text, only the part around the index `at` is returned."""
     begin = max(0, at - 100)
     end = begin + 400
     return f"{'..' * (begin > 0)}{text[begin:end]}{'..' * (end < len(text))}"
 
 
 def differences(cases, out):
-    """Yields the errors in the answers of a run over these cases."""
+    """Yields the errors in the output of a program that has answered these cases."""
     lines = out.split("\n")
     for at, case in enumerate(cases):
         name, got = (lines[2 * at:2 * at + 2] + ["", ""])[:2]
@@ -139,17 +141,17 @@ def differences(cases, out):
 
 
 def cases_job(crate, cases):
-    """Tries some cases of a crate, and compares each answer with the stored answer."""
+    """Runs some test cases of a crate, and compares each answer with the stored answer."""
 
     def run():
         parts = [cases[at:at + AT_ONCE] for at in range(0, len(cases), AT_ONCE)]
         with tempfile.TemporaryDirectory() as folder:
             for number, part in enumerate(parts):
                 with open(os.path.join(folder, f"{number:04}"), "w", encoding="utf-8") as file:
-                    # Only some allocations of each call fail here. In the gate, which runs the compiled code, each of
-                    # them fails in turn.
+                    # Here only some allocations of each call fail. In `make test`, which runs the compiled code, each
+                    # allocation fails in turn.
                     file.write(stored.asked(part, "few "))
-            # The interpreter can't run code that allocates memory from the system.
+            # `rt try` interprets the program. The interpreter can't run code that allocates memory from the system.
             status, out, said = try_crate(crate, ["--steps", "1", "--seconds", str(SECONDS), "--cases", folder])
         outs = dict(zip(*[iter(re.split(r"^== (\d{4})\n", out.decode(errors="replace"), flags=re.M)[1:])] * 2))
         late = {int(it) for it in re.findall(r"^case=(\d{4}) run=no-answer", said, re.M)}
@@ -168,7 +170,7 @@ def cases_job(crate, cases):
 
 
 def imported(text, crates):
-    """Yields the words that a file imports from these crates, or names by their paths."""
+    """Yields the names that a file imports from these crates, or writes with the path of a crate."""
     for crate, one, several in re.findall(r"^(?:pub )?use (\w+)::(?:([\w:]+)|\{([^}]*)\});", text, re.M):
         if crate in crates:
             yield from re.findall(r"\w+", several or one)
@@ -179,12 +181,13 @@ def imported(text, crates):
 
 @functools.cache
 def product():
-    """Returns the crates of the product."""
+    """Returns the names of the crates of the product. They begin with `capn`."""
     return frozenset(it for it in proving.crates() if it.startswith("capn"))
 
 
 def exported():
-    """Yields each function that a crate of the product exports under its own name, and each call of c/capn.h."""
+    """Yields each function that a crate of the product (capn*) exports under its own name, and each call of
+    c/capn.h."""
     for crate in proving.crates():
         path = os.path.join("crates", crate, "src", "lib.rt")
         if crate not in product() or not os.path.exists(os.path.join(TOP, path)):
@@ -198,8 +201,8 @@ def exported():
 
 @functools.cache
 def words_of_tests():
-    """Returns a dictionary from the path of each file of tests to a set of words: those that the file imports from the
-    product or, for a file of tests/c, all words of its text."""
+    """Returns the words of each test file, by the path of the file. These are the names that the file imports from the
+    crates of the product (capn*). For a file of tests/c, they are all words of the file."""
     found = {}
     for crate in proving.crates():
         if crate.startswith(("test_", "conformance_")) or crate in product() and tests_of(crate):
@@ -213,14 +216,15 @@ def words_of_tests():
 
 
 def naming(function):
-    """Returns the files of tests that name an exported function."""
+    """Returns the paths of the test files that name an exported function."""
     folder = "tests/c/" if function.crate == "c" else "crates/"
     found = {path for path, words in words_of_tests().items() if function.name in words}
     return sorted(path for path in found if path.startswith(folder))
 
 
 def jobs_naming(files):
-    """Yields the jobs of these files of tests: the tests of their crates, and the cases that their modules answer."""
+    """Yields the jobs of these test files. The jobs run the tests of the files' crates, and the test cases that the
+    files answer."""
     for crate in sorted({file.split("/")[1] for file in files}):
         if tests_of(crate):
             yield tests_job(crate)
@@ -231,14 +235,15 @@ def jobs_naming(files):
 
 
 def workers():
-    """Returns how many crates are tried at once: one for each processor, if memory allows."""
+    """Returns how many crates are tested at once. It is one crate for each processor, or fewer if there isn't enough
+    memory."""
     with open("/proc/meminfo", encoding="ascii") as file:
         free = int(re.search(r"^MemAvailable: +(\d+)", file.read(), re.M)[1]) // (MEMORY << 20)
     return max(1, min(len(os.sched_getaffinity(0)), free))
 
 
 def run_all(jobs):
-    """Runs the jobs in their order. Prints a line for each job that is done, and the errors at the end. The rest goes
+    """Runs the jobs in their order. Prints a line when a job is done, and the errors at the end. All other output goes
     into a log. Returns the exit status."""
     begun, faults = time.time(), []
     os.makedirs(os.path.join(TOP, "build"), exist_ok=True)
@@ -264,8 +269,8 @@ def run_all(jobs):
 
 
 def nearest(crate, names, tried):
-    """Returns the crates, of those in `tried`, that reach a crate in the fewest steps. A crate that names the crate
-    reaches it in one step."""
+    """Returns the crates of `tried` that are nearest to a crate. A crate that names `crate` is one step away. A crate
+    that names such a crate is two steps away, and so on."""
     above = {crate}
     while above:
         found = [it for it in tried if it in above and it != crate]
@@ -276,9 +281,8 @@ def nearest(crate, names, tried):
 
 
 def calls_reaching(crate, names):
-    """Returns the first program that has cases which reach a crate, and the calls of these cases. If the answers of
-    some calls name the crate, these calls are returned. Otherwise the calls whose answers reach the crate are
-    returned."""
+    """Returns the first program with test cases that test a crate, and the calls of these cases. If the modules of some
+    calls name the crate, returns these calls. Otherwise returns the calls whose modules use the crate indirectly."""
     for one in stored.CRATES:
         found = dict(crates_of_calls(one))
         if crate == one or crate in names[one] and crate not in set().union(*found.values()):
@@ -291,7 +295,7 @@ def calls_reaching(crate, names):
 
 
 def reaching(crate):
-    """Returns the nearest crates with tests that reach a crate, a program with cases that reaches it, and the calls of
-    these cases."""
+    """Returns what tests a crate: the nearest crates with tests, a program with test cases, and the calls of these
+    cases."""
     names = proving.crates()
     return nearest(crate, names, [it for it in names if tests_of(it)]), *calls_reaching(crate, names)

@@ -1,6 +1,6 @@
-// Writes bytes that builders of the reference implementation leave and that aren't canonical. For `twice`, a text was
-// set a second time. For `upgraded`, a list of numbers was requested as a list of structs. For `empty`, a null root was
-// requested.
+// Makes a message with a builder of the reference implementation, and writes its bytes, which aren't canonical. With
+// the argument `twice`, the builder sets a text a second time. With `upgraded`, it requests a list of numbers as a list
+// of structs. With `empty`, it requests a null root.
 
 #include <capnp/message.h>
 #include <kj/io.h>

@@ -1,8 +1,8 @@
-// Writes pairs of messages with builders of the reference implementation. `pairs SEED COUNT` writes them as a stream,
-// which is the same in every run. The messages of an even pair have one value in two layouts. The messages of an odd
-// pair have values that differ in one place. Layouts differ in the sizes of structs and of structs in lists, as they do
-// between an older and a newer schema. They also differ in the order of objects, in the sizes of segments and so in the
-// far pointers, and in the gaps where an object was moved or dropped.
+// Writes pairs of messages with builders of the reference implementation. `pairs SEED COUNT` writes the pairs as a
+// stream, which is the same in every run. The two messages of an even pair have one value in two layouts. The two
+// messages of an odd pair have values that differ in one place. Layouts differ in the sizes of structs and of structs
+// in lists, as an older and a newer schema do. They also differ in the order of objects, in the sizes of segments and
+// so in the far pointers, and in the gaps where an object was moved or dropped.
 #include <capnp/any.h>
 #include <capnp/message.h>
 #include <capnp/orphan.h>
@@ -15,8 +15,8 @@
 
 enum Kind { NOTHING, STRUCT, VOIDS, BITS, BYTES, TWOS, FOURS, EIGHTS, POINTERS, ROWS };
 
-// The object that a pointer refers to. A struct has numbers, which are its data words, and parts, which are its
-// pointers. A list of numbers has numbers. The other lists have parts. The parts of a list of structs are structs.
+// A value is the object that a pointer refers to. A struct has numbers, which are its data words, and parts, which are
+// its pointers. A list of numbers has numbers. The other lists have parts. The parts of a list of structs are structs.
 struct Value {
   Kind kind = NOTHING;
   std::vector<uint64_t> numbers;
@@ -55,7 +55,7 @@ static Value valueOf(Kind kind, unsigned depth) {
   return made;
 }
 
-// Collects all values within a value, including the value itself, and whether each is a struct in a list.
+// Collects a value and all values inside it. For each of them, `all` also says whether it is a struct in a list.
 static void collect(Value& value, bool isRow, std::vector<std::pair<Value*, bool>>& all) {
   all.push_back({&value, isRow});
   for (auto& part : value.parts) collect(part, value.kind == ROWS, all);
@@ -91,11 +91,11 @@ static void change(Value& value, bool isRow) {
   }
 }
 
-// Builds values in a message, each time in another layout.
+// Writes values into a message, each time in another layout.
 class Layout {
 public:
-  // How many more words and pointers a struct may have than its value needs. With 0, no struct has more, no gap is
-  // made, and no object is moved.
+  // `spare` is the greatest number of words and of pointers that a struct may have beyond what its value needs. With 0,
+  // no struct has more than it needs, no gap is made, and no object is moved.
   explicit Layout(unsigned spare) : spare(spare) {}
 
   void put(const Value& value, capnp::AnyPointer::Builder to) {
@@ -117,7 +117,7 @@ public:
       case ROWS: putRows(value, to); break;
     }
     if (spare > 0 && below(6) == 0) {
-      // Takes the object out of its pointer, makes another object behind it, and puts the first object back.
+      // Takes the object out of its pointer, makes another object and drops it, and puts the first object back.
       auto moved = to.disown();
       waste(to);
       to.adopt(kj::mv(moved));
@@ -129,7 +129,7 @@ private:
 
   unsigned more() { return spare == 0 ? 0 : below(spare + 1); }
 
-  // Drops an object. Its words stay in the message.
+  // Makes an object and drops it. The object's words stay in the message as a gap.
   void waste(capnp::AnyPointer::Builder to) {
     if (below(2)) to.initAs<capnp::Data>(1 + below(20));
     else to.initAsAnyStruct(1 + below(3), below(3));

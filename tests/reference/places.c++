@@ -1,6 +1,6 @@
-// Writes what the reference implementation finds in each message of a stream. It writes a line for each pointer, in
-// preorder, with the offset of the object from the beginning of the message's segment table. For a message that it
-// rejects, it writes only one line. It reads standard input.
+// Writes where the reference implementation finds the objects of each message of a stream. There is a line for each
+// pointer, in preorder. It has the offset of the object from the beginning of the message's segment table. For a
+// message that the implementation rejects, there is only one line. The program reads standard input.
 
 #include <capnp/any.h>
 #include <capnp/serialize.h>

@@ -1,6 +1,7 @@
-/* Compares pairs of messages by the library. Two consecutive messages on standard input are a pair. For each pair the
- * program prints a line. It compares the canonical bytes of both, and calls capn_same on both, in each form and in each
- * order. If all results agree, the line is `same` or `different`. Otherwise it says which result is wrong. */
+/* Compares pairs of messages with the C library. Two consecutive messages on standard input are a pair. For each pair
+ * the program compares the canonical bytes of the two messages. It also calls capn_same on them, in each form and in
+ * each order. It prints a line for each pair. If all results agree, the line is `same` or `different`. Otherwise the
+ * line says which result is wrong. */
 #include "capn.h"
 
 #include <stdint.h>
