@@ -1,5 +1,5 @@
-// Writes an archive with the reference implementation. `archive COUNT` writes COUNT messages: a third are persons, a
-// third are series of numbers, and a third are trees. The same count gives the same bytes.
+// Writes an archive of messages with the reference implementation. `archive COUNT` writes COUNT messages. A third of
+// them are persons, a third are series of numbers, and a third are trees. The same count gives the same bytes.
 #include "archive.capnp.h"
 #include <capnp/message.h>
 #include <capnp/serialize.h>

@@ -1,5 +1,5 @@
-/* calls OPERATION STEPS < MESSAGE: makes a call of the library for C STEPS times, on a message with its segment table.
- * It prints the length of the message in bytes. The buffers are allocated before the calls. bench/count counts the
+/* calls OPERATION STEPS < MESSAGE: makes a call of the C library STEPS times, on a message with its segment table. It
+ * prints the length of the message in bytes. The buffers are allocated before the calls. bench/count counts the
  * instructions of a step. */
 #include "capn.h"
 #include <stdio.h>

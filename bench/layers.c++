@@ -1,6 +1,6 @@
-// layers MILLISECONDS < MESSAGE: times calls of capn.hpp on a message. Each call is timed for this long, in batches of
-// 0.2 milliseconds or more. The program prints a line for each call: its name, and the nanoseconds of a call in the
-// shortest batch. bench/layers runs it.
+// layers MILLISECONDS < MESSAGE: times calls of capn.hpp on a message. Each call is timed for MILLISECONDS, in batches
+// of 0.2 milliseconds or more. The program prints a line for each call: its name, and the nanoseconds of one call in
+// the shortest batch. bench/layers runs the program.
 #include "capn.hpp"
 #include <chrono>
 #include <cstdio>

@@ -1,6 +1,6 @@
 // Runs the reference implementation on a message with its segment table. `reference OPERATION STEPS < MESSAGE` does the
-// operation STEPS times, and prints the number of bytes by which to divide its cost. `reference write < MESSAGE` writes
-// the canonical bytes.
+// operation STEPS times, and prints a number of bytes. The cost per byte is the cost divided by this number. `reference
+// write < MESSAGE` writes the canonical bytes of the message.
 #include <capnp/any.h>
 #include <capnp/message.h>
 #include <capnp/serialize-packed.h>

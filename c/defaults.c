@@ -1,7 +1,7 @@
-/* The calls of the header. Each call replaces a null `limits`, `report` or `which`, and makes the proved call of the
- * same name. `make linked` renames the proved calls to proved_capn_*, and hides them. This code is not proved. It keeps
- * no state, and reads and writes nothing but its arguments. If no argument is null, it does two comparisons and a jump.
- */
+/* The calls of capn.h. Each call replaces a null `limits`, `report` or `which`, and then makes the proved call of the
+ * same name. `make linked` renames the proved calls to proved_capn_*, and hides them. The code of this file isn't
+ * proved. It keeps no state, and reads and writes only its arguments. If no argument is null, the code does two
+ * comparisons and a jump. */
 #include "capn.h"
 
 static const capn_limits usual = CAPN_USUAL_LIMITS;
@@ -12,7 +12,8 @@ static const capn_limits usual = CAPN_USUAL_LIMITS;
 #define HIDDEN __attribute__((visibility("hidden")))
 #define SELDOM __attribute__((cold, noinline))
 
-/* Defines a call with limits and a report, from its name, its parameters, and the names of its parameters. */
+/* Defines a call with limits and a report. The arguments of the macro are the call's name, its parameters, and the
+ * names of its parameters. */
 #define WITH_LIMITS(name, parameters, passed) \
     HIDDEN capn_status proved_##name parameters; \
     static SELDOM capn_status name##_by_default parameters { \
@@ -90,7 +91,7 @@ WITH_LIMITS(capn_departure,
              uint32_t *way, size_t most_numbers, capn_report *report),
             (form, bytes, size, limits, departed, way, most_numbers, report))
 
-/* Defines the call on two messages. `which` may be null, too. */
+/* Defines a call on two messages. Its argument `which` may be null, too. */
 HIDDEN capn_status proved_capn_same(uint32_t form, const uint8_t *a, size_t size_a, const uint8_t *b, size_t size_b,
                                     const capn_limits *limits, uint32_t *which, capn_report *report);
 static SELDOM capn_status capn_same_by_default(uint32_t form, const uint8_t *a, size_t size_a, const uint8_t *b,

@@ -1,5 +1,5 @@
-/* The texts of the library: its version, each status, and an error with its place. This code is not proved. It keeps no
- * state, and reads and writes nothing but its arguments. */
+/* The texts of the library: its version, a text for each status, and the text of an error with its place. The code of
+ * this file isn't proved. It keeps no state, and reads and writes only its arguments. */
 #include "capn.h"
 
 #ifndef CAPN_VERSION_TEXT
@@ -86,7 +86,7 @@ const char *capn_status_name(capn_status status) {
     }
 }
 
-/* A buffer that receives as much of a text as fits, and the length of the whole text. */
+/* A buffer that receives as much of a text as fits into it. `length` is the length of the whole text. */
 struct text {
     char *out;
     size_t room, length;

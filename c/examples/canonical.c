@@ -1,10 +1,11 @@
-/* canonical FILE: writes the canonical bytes of the one message in a file to standard output.
- * It exits with 1 if the message is invalid, 2 on wrong usage, and 3 if reading, writing or an allocation fails. */
+/* canonical FILE: writes the canonical bytes of a message to standard output. The file must have exactly one message.
+ * The program exits with 1 if the message is invalid, 2 on wrong usage, and 3 if reading, writing or an allocation
+ * fails. */
 #include "capn.h"
 #include <stdio.h>
 #include <stdlib.h>
 
-/* Returns all bytes of a file, which the caller frees, or null if reading or an allocation fails. */
+/* Returns all bytes of a file, or null if reading or an allocation fails. The caller frees the bytes. */
 static uint8_t *read_all(const char *name, size_t *size) {
     FILE *file = fopen(name, "rb");
     if (!file) return NULL;
@@ -17,7 +18,7 @@ static uint8_t *read_all(const char *name, size_t *size) {
         if (!more) free(bytes);
         bytes = more;
     }
-    if (bytes && ferror(file)) { /* fread also returns 0 if reading fails: that is not the end of the file */
+    if (bytes && ferror(file)) { /* fread also returns 0 on a read error, which is not the end of the file */
         free(bytes);
         bytes = NULL;
     }
@@ -35,7 +36,8 @@ int main(int count, char **words) {
         return 3;
     }
 
-    /* With a buffer of size 0, the call checks the message and reports a length that is enough. */
+    /* With a buffer of size 0, capn_canonical only checks the message. It reports a length that is enough for the
+     * canonical bytes. */
     capn_limits limits = CAPN_USUAL_LIMITS;
     capn_report report;
     capn_status status = capn_canonical(CAPN_STREAM, bytes, size, &limits, NULL, 0, &report);
@@ -48,7 +50,7 @@ int main(int count, char **words) {
     int is_written = 1;
     if (status == CAPN_OK) is_written = fwrite(out, 1, report.length, stdout) == report.length && !fflush(stdout);
     else {
-        char text[128]; /* the text that the program capn prints, with the place of the error */
+        char text[128]; /* the text of the error, with the place of the error */
         capn_refusal_text(status, &report, text, sizeof text);
         fprintf(stderr, "rejected: %s\n", text);
     }

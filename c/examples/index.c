@@ -1,5 +1,5 @@
-/* index FILE: prints the tree of an untrusted message without a schema, from the message's index. Each pointer has a
- * line. It exits with 1 if the message is invalid, 2 on wrong usage, and 3 if the file cannot be read. */
+/* index FILE: prints the tree of an untrusted message without a schema, from the message's index. It prints a line for
+ * each pointer. It exits with 1 if the message is invalid, 2 on wrong usage, and 3 if the file cannot be read. */
 #include "capn.h"
 #include "capn_fields.h"
 #include <inttypes.h>
@@ -9,7 +9,8 @@
 static const char *const kinds[] = {"null", "struct", "void", "bits", "bytes", "u16", "u32", "u64", "pointers", "rows",
                                     "capability"};
 
-/* Prints entry i and all entries below it. Their places are known, and `span` says where the next sibling is. */
+/* Prints entry i of the index, and all entries below it. The first entry below it is entry i + 1. `span` is the number
+ * of entries from an entry to its next sibling. */
 static void print_entry(const capn_entry *all, size_t i, int level, const uint8_t *bytes) {
     const capn_entry *e = &all[i];
     printf("%*s%s", 2 * level, "", kinds[e->kind]);
@@ -21,8 +22,8 @@ static void print_entry(const capn_entry *all, size_t i, int level, const uint8_
 }
 
 int main(int count, char **words) {
-    /* A copy of the message, which nobody changes while it is read. The buffer has room for one byte more than a
-     * message may have here. So a longer message is detected and rejected. */
+    /* The program copies the message into its own memory, so that nobody changes the message while it is read. The
+     * buffer has room for one byte more than a message may have here, so a longer message is detected and rejected. */
     static uint8_t bytes[(1 << 20) + 1];
     capn_limits limits = CAPN_USUAL_LIMITS;
     limits.message_words = 1 << 17;
@@ -36,7 +37,7 @@ int main(int count, char **words) {
     if (!is_read) return 3;
 
     capn_report report;
-    size_t entries; /* at most budget + 1 */
+    size_t entries; /* the number of entries of the index, at most budget + 1 */
     capn_status status = capn_count_entries(CAPN_STREAM, bytes, size, &limits, &entries, &report);
     if (status == CAPN_OK) {
         capn_entry *all = malloc(entries * sizeof *all);

@@ -1,10 +1,11 @@
-/* segments: prints the digest of a message that a builder holds in two segments, with no segment table and no copy. */
+/* segments: prints the digest of a message that a builder holds in two segments. The program needs no segment table and
+ * no copy of the message. */
 #include "capn.h"
 #include <stdio.h>
 
 int main(void) {
-    /* The root is a far pointer to the second segment. This segment has a landing pad and the struct of two words that
-     * the landing pad refers to. */
+    /* The root is a far pointer to the second segment. The second segment has a landing pad, and the struct of two
+     * words that the landing pad refers to. */
     static const uint8_t first[8] = {2, 0, 0, 0, 1, 0, 0, 0};
     static const uint8_t second[24] = {0, 0, 0, 0, 2, 0, 0, 0, 5};
     const capn_segment segments[] = {{first, sizeof first / 8}, {second, sizeof second / 8}};

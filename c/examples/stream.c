@@ -1,7 +1,8 @@
 /* stream: prints the digest of each message of a stream on standard input, in hexadecimal. The stream may have any
  * length. `capn_first` says how many bytes the current message needs, so the program reads no byte after this message.
- * It goes on after an invalid message, and prints its number, its offset and the error to standard error. It exits with
- * 1 if a message is invalid or the stream is truncated, and 2 if reading fails. */
+ * For an invalid message, the program prints the message's number, its offset and the error to standard error, and goes
+ * on with the next message. It exits with 1 if a message is invalid or the stream is truncated, and 2 if reading
+ * fails. */
 #include "capn.h"
 #include <errno.h>
 #include <stdio.h>
@@ -25,8 +26,8 @@ int main(void) {
     for (;;) {
         status = capn_first(bytes, have, &limits, &report);
         if (status == CAPN_FRAME_EMPTY || status == CAPN_FRAME_CUT) {
-            /* The buffer grows as bytes arrive. It doesn't grow at once to the length that a segment table announces.
-             */
+            /* The buffer grows as bytes arrive. A segment table can announce a great length, but the buffer doesn't
+             * grow to it at once. */
             const size_t need = report.length;
             if (have == room) {
                 room = room ? 2 * room : 4096;
@@ -60,7 +61,7 @@ int main(void) {
         have = 0;
     }
     free(bytes);
-    /* At the end of the stream, no bytes are left, or the last message is truncated. */
+    /* The stream has ended here. Either no bytes are left, or the last message is truncated. */
     if (status != CAPN_FRAME_EMPTY) {
         print_error(number, offset, status, &report);
         is_valid = 0;

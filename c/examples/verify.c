@@ -1,6 +1,6 @@
-/* verify FILE DIGEST: exits with 0 if a file is exactly one message, and its canonical bytes have this SHA-256. It
- * exits with 1 if not, with 2 on wrong usage, and with 3 if the file cannot be read. It verifies no signature. First
- * verify the signature of a statement that has the protocol, the type and the digest. */
+/* verify FILE DIGEST: exits with 0 if a file is exactly one message, and the SHA-256 of its canonical bytes is DIGEST.
+ * It exits with 1 if not, with 2 on wrong usage, and with 3 if the file cannot be read. The program verifies no
+ * signature. Before you use it, verify the signature of a statement that has the protocol, the type and the digest. */
 #include "capn.h"
 #include <stdio.h>
 #include <string.h>
@@ -16,7 +16,7 @@ int main(int count, char **words) {
     if (!is_read) return 3;
     if (size == sizeof bytes) return 1;
 
-    /* The limits of the protocol. They bound what an untrusted message can cost. */
+    /* The limits of the protocol. They bound the cost of reading an untrusted message. */
     capn_limits limits = CAPN_USUAL_LIMITS;
     limits.message_words = 1 << 17;
     limits.budget = 1 << 18;
@@ -24,7 +24,7 @@ int main(int count, char **words) {
     uint8_t digest[32];
     capn_report report;
     const capn_status status = capn_hash(CAPN_STREAM, bytes, size, &limits, digest, &report);
-    if (status != CAPN_OK) { /* bytes after the message are an error, too, since the file must be one message */
+    if (status != CAPN_OK) { /* bytes after the message are an error, since the file must be exactly one message */
         char text[128];
         capn_refusal_text(status, &report, text, sizeof text);
         fprintf(stderr, "rejected: %s\n", text);

@@ -1,5 +1,5 @@
 #!/usr/bin/env python3
-"""Runs a command of `capn` over an archive on several processors: parallel.py ARCHIVE COMMAND [OPTION..]
+"""Runs a command of `capn` over an archive on several processors. Usage: parallel.py ARCHIVE COMMAND [OPTION..]
 
 COMMAND is `hash`, `check`, `list` or `canonical --framed`. The archive is split between messages, at offsets that `capn
 list` writes. A process of its own reads each part. The results are put together in order, with the numbers and offsets
@@ -32,9 +32,9 @@ PASSED_OVER = re.compile(rb"capn: (\d+) of (\d+) messages refused, the first is 
 
 
 class Part(NamedTuple):
-    """A part of an archive. A part has complete messages, except that the last part may have any bytes. A part says how
-    many messages are before it, where it begins, how many messages it has, and where it ends. The last part is the rest
-    of the archive, and has no end."""
+    """A part of an archive: how many messages are before the part, where it begins, how many messages it has, and where
+    it ends. A part has complete messages. The last part has no end: it is the rest of the archive, and may have any
+    bytes."""
 
     before: int
     begin: int
@@ -42,13 +42,12 @@ class Part(NamedTuple):
     end: int | None
 
     def moved(self, found: re.Match[bytes]) -> bytes:
-        """Returns the number and the offset that a message has in the archive, from its number and offset in this
-        part."""
+        """Returns the number and the offset of a message in the archive, from its number and offset in this part."""
         return b"%d at %d" % (int(found[1]) + self.before, int(found[2]) + self.begin)
 
 
 class Answer(NamedTuple):
-    """The output of a process for a part, and its status."""
+    """The output and the exit status of the process that ran the command on a part of the archive."""
 
     part: Part
     output: bytes
@@ -57,7 +56,7 @@ class Answer(NamedTuple):
 
 
 def parts_of(path: str, limits: list[str], most: int) -> Iterator[Part]:
-    """Yields the parts of an archive as soon as they are known. Each has at least this many bytes."""
+    """Yields the parts of an archive as soon as they are known. Each part but the last has at least this many bytes."""
     before = begin = last = 0
     command = [CAPN, "list", "--keep-going", *limits]
     with open(path, "rb") as archive, subprocess.Popen(
@@ -81,8 +80,8 @@ def parts_of(path: str, limits: list[str], most: int) -> Iterator[Part]:
 
 
 def answer(path: str, part: Part, command: list[str]) -> Answer:
-    """Runs the command on a part. Returns its output, with the numbers and offsets of the whole archive in each
-    line."""
+    """Runs the command on a part of the archive. In the output, replaces each message's number and offset in the part
+    with those in the whole archive."""
     with open(path, "rb") as archive:
         archive.seek(part.begin)
         given = {"stdin": archive} if part.end is None else {"input": archive.read(part.end - part.begin)}
@@ -92,8 +91,8 @@ def answer(path: str, part: Part, command: list[str]) -> Answer:
 
 
 def answers(path: str, parts: Iterator[Part], command: list[str], processes: int) -> Iterator[Answer]:
-    """Yields the outputs of the processes for the parts, in order. A few more parts are started than there are
-    processes."""
+    """Runs the command on each part in a process of its own, and yields the outputs in order. A few more parts are
+    started than processes run at once."""
     waiting: deque[Future[Answer]] = deque()
     with ProcessPoolExecutor(processes) as pool:
         try:
@@ -108,7 +107,8 @@ def answers(path: str, parts: Iterator[Part], command: list[str], processes: int
 
 
 def put_together(found: Iterator[Answer]) -> tuple[bytes, int]:
-    """Writes the output for each part, up to the first error. Returns the lines for standard error, and the status."""
+    """Writes the output for each part, up to the first error. Returns the lines for standard error, and the exit
+    status."""
     refused, messages, first = 0, 0, b""
     for it in found:
         sys.stdout.buffer.write(it.output)
@@ -128,7 +128,7 @@ def put_together(found: Iterator[Answer]) -> tuple[bytes, int]:
 
 
 def limits_of(options: list[str]) -> list[str]:
-    """Returns the limits among these options. The limits also apply when the script splits the archive."""
+    """Returns the options among these that set limits. The script also uses these limits when it splits the archive."""
     found: list[str] = []
     for at, option in enumerate(options):
         if option in LIMITS:
@@ -139,8 +139,8 @@ def limits_of(options: list[str]) -> list[str]:
 
 
 def is_for_parts(command: list[str]) -> bool:
-    """Returns whether an archive may be split for this command. For an empty input, the command has to succeed and
-    write nothing."""
+    """Returns whether the script may split an archive for this command. The command has to succeed on an empty input,
+    and to write nothing."""
     if command[0] not in COMMANDS or OTHER_FORMS & set(command):
         return False
     ran = subprocess.run([CAPN, *command], stdin=subprocess.DEVNULL, capture_output=True, check=False)

@@ -1,5 +1,5 @@
 #!/usr/bin/env python3
-"""Writes the good messages of a damaged archive: recover.py --good GOOD ARCHIVE > KEPT
+"""Writes the good messages of a damaged archive. Usage: recover.py --good GOOD ARCHIVE > KEPT
 
 GOOD is an archive of the same kind without damage, such as the first messages of ARCHIVE. A message is suspect if it
 has more words than `capn limits` gives for GOOD, or if it leaves more of its words unused than any message of GOOD.
@@ -23,22 +23,22 @@ from contextlib import closing
 from itertools import islice
 from typing import NamedTuple
 
-# The counting rule `plain` counts only words. A message that uses all of its words costs one word less than it has,
-# because its root pointer isn't counted.
+# `capn list` counts costs by the rule `plain`, which counts only words. If a message uses all of its words, its cost is
+# one less than its number of words, because the root pointer isn't counted.
 LIST = [os.environ.get("CAPN", "capn"), "list", "--keep-going", "--tariff", "plain"]
 LIMITS = [LIST[0], "limits"]
 LINE = re.compile(rb"\d+ at (\d+) bytes (\d+) segments \d+ words (\d+) (?:paid (\d+) |refused (.*))")
 FAULT = re.compile(rb"capn: message \d+ at (\d+): (.*)")
-# Matches the beginning of a possible segment table. The table has at most 4,096 segments, and its first segment isn't
-# empty. It may begin at any byte, since some bytes may be lost.
+# Matches the beginning of a possible segment table. The table announces at most 4,096 segments, and its first segment
+# isn't empty. The table may begin at any byte, since some bytes may be lost.
 TABLE = re.compile(rb"(?=.[\0-\x0f]\0\0(?!\0{4}))", re.DOTALL)
-# One process checks at most this many rows of messages, or about this many bytes.
+# One process of `capn` checks at most this many rows of messages, or about this many bytes.
 MOST_ROWS, MOST_BYTES = 1 << 12, 1 << 24
 
 
 class Message(NamedTuple):
-    """A message: its bytes, its words, and its cost or the error for which it is rejected. If the segment table is
-    invalid, the end of the message isn't known."""
+    """A message: where it begins and ends, its number of words, and either its cost or the error for which it is
+    rejected. If the segment table is invalid, the end of the message isn't known."""
 
     begin: int
     end: int
@@ -53,7 +53,7 @@ class Message(NamedTuple):
 
 class Span(NamedTuple):
     """A range of bytes of an archive. The bytes are complete messages that are kept, or bytes that are skipped because
-    of an error. In the second case, the range has this error."""
+    of an error. A skipped range also has the error."""
 
     begin: int
     end: int
@@ -62,7 +62,7 @@ class Span(NamedTuple):
 
 
 def message_of(line: bytes, offset: int) -> Message:
-    """Returns the message that a line of `capn list` describes. The listing began at this offset."""
+    """Returns the message that a line of `capn list` describes. `capn list` began to read the archive at `offset`."""
     found = LINE.match(line)
     if not found:
         raise RuntimeError(f"not a line of capn list: {line!r}")
@@ -94,7 +94,7 @@ def listed(path: str, offset: int) -> Iterator[Message]:
 
 
 class Sample:
-    """An archive without damage, which shows what good messages are like."""
+    """A sample archive without damage. It shows what good messages are like."""
 
     def __init__(self, path: str) -> None:
         with open(path, "rb") as file:
@@ -110,17 +110,18 @@ class Sample:
             self.has_null = self.has_null or cost == 0
 
     def takes(self, message: Message) -> bool:
-        """Returns whether a message is accepted. Two words of garbage can be a null message. So a null message counts
-        as accepted only if the sample has a null message."""
+        """Returns whether a message is accepted. Two words of garbage can look like a message whose root is null. So a
+        message with a null root counts as accepted only if the sample has one."""
         return message.cost is not None and (message.cost > 0 or self.has_null)
 
     def is_like(self, message: Message) -> bool:
-        """Returns whether a message is accepted and not suspect."""
+        """Returns whether a message is accepted and looks like the messages of the sample. It must not be longer, and
+        must not have more unused words, than these messages."""
         return self.takes(message) and message.words <= min(self.words, self.unused + (message.cost or 0))
 
 
 class Archive:
-    """A damaged archive."""
+    """A damaged archive, whose good messages are found."""
 
     def __init__(self, path: str, sample: Sample, options: argparse.Namespace) -> None:
         self.path, self.sample, self.row, self.nested = path, sample, options.row, options.nested
@@ -129,7 +130,7 @@ class Archive:
             self.data = mmap.mmap(file.fileno(), 0, access=mmap.ACCESS_READ) if self.size else b""
 
     def spans(self) -> Iterator[Span]:
-        """Yields the bytes of the archive in order, as ranges that are kept or skipped."""
+        """Yields the bytes of the archive in order. Each range of bytes is kept or skipped."""
         at = 0
         while at < self.size:
             begin, messages, bad = at, 0, None
@@ -146,8 +147,8 @@ class Archive:
                 yield from self.between(bad, at)
 
     def next_good(self, bad: Message) -> int:
-        """Returns the byte at which a row of good messages begins. The row is the first one after the beginning of a
-        bad message. If no such row exists, returns the end of the archive."""
+        """Returns the byte at which a row of good messages begins: the first such row after the beginning of a bad
+        message. If no such row exists, returns the end of the archive."""
         rows: list[tuple[int, list[int]]] = []
         most, size = 1, 0
         if self.nested and bad.end > bad.begin and self.first_good([(bad.end, self.ends(bad.end))]):
@@ -163,8 +164,8 @@ class Archive:
         return self.first_good(rows) or self.size
 
     def ends(self, at: int) -> list[int]:
-        """Returns the ends of the messages in a row that begins here, by their segment tables. The row is shorter than
-        wanted only if the archive ends."""
+        """Returns the ends of the messages in a row that begins at byte `at`. The ends come from the messages' segment
+        tables. The row is shorter than wanted only if the archive ends."""
         ends: list[int] = []
         while len(ends) < self.row and at < self.size:
             at = self.end(at)
@@ -176,8 +177,8 @@ class Archive:
         return ends
 
     def end(self, at: int) -> int:
-        """Returns the end of the message that begins here, by its segment table. Returns 0 if the message has more
-        words than the sample allows."""
+        """Returns the end of the message that begins at byte `at`, by the message's segment table. Returns 0 if the
+        message has more words than the sample allows."""
         if at + 8 > self.size:
             return self.size + 1
         last, first = struct.unpack_from("<II", self.data, at)
@@ -190,7 +191,8 @@ class Archive:
         return at + table + 8 * words if words <= self.sample.words else 0
 
     def first_good(self, rows: list[tuple[int, list[int]]]) -> int:
-        """Returns where the first row begins whose messages are all good, or 0. One process checks all rows."""
+        """Returns where the first row begins in which all messages are good, or 0 if there is no such row. One process
+        of `capn` checks all rows."""
         frames = b"".join(self.data[begin:ends[-1]] for begin, ends in rows if ends)
         lines = subprocess.run(LIST, input=frames, capture_output=True, check=False).stdout.splitlines()
         messages = (message_of(line, 0) for line in lines)
@@ -201,9 +203,9 @@ class Archive:
         return 0
 
     def between(self, bad: Message, good: int) -> Iterator[Span]:
-        """Yields the bytes from a bad message up to the next good message. The segment tables may lead from the bad
-        message exactly to the good message. Then each message between these two begins where it should, and is kept if
-        it is accepted, even if it is suspect."""
+        """Yields the bytes from a bad message up to the next good message. If the segment tables lead from the bad
+        message exactly to the good message, each message between the two begins where it should. Such a message is kept
+        if it is accepted, even if it is suspect."""
         end = bad.begin
         with closing(listed(self.path, bad.begin)) as found:
             for message in found:

@@ -1,4 +1,4 @@
-"""Tests the scripts of this folder on small archives in the current folder, with the program that CAPN names.
+"""Tests the scripts of contrib/archives on small archives in the current folder, with the program that CAPN names.
 
 From a damaged archive, recover.py has to keep each message whose bytes are complete, and no other bytes. parallel.py
 has to write what one process writes. search.sh has to find the messages with a text, and no other messages.
@@ -21,8 +21,8 @@ from messages import canonical, framed, in_two_segments, with_zeros
 
 CAPN = os.environ["CAPN"]
 MEGABYTE = 1 << 20
-# How often the messages after an invalid table are repeated. One table announces 5,000 words. So many messages have to
-# follow this table that it hides only complete messages.
+# How often the messages after a damaged segment table are repeated. One damaged table announces 5,000 words. Enough
+# messages have to follow that these words end inside the archive.
 MANY = 6
 Ran = tuple[bytes, str, int]
 Place = tuple[int, int, str]
@@ -55,7 +55,7 @@ def script(name: str, *words: str) -> Ran:
 
 
 def fault_of(archive: bytes) -> str:
-    """Returns the error of the first message, as recover.py prints it."""
+    """Returns the error of the first message of an archive, as recover.py prints it."""
     out, errors, _ = ran(CAPN, "list", "--keep-going", "--tariff", "plain", given=archive)
     if not out:
         return errors.strip().split(": ", 2)[2]
@@ -64,8 +64,8 @@ def fault_of(archive: bytes) -> str:
 
 
 def recovered(what: str, damaged: bytes, kept: list[bytes], *places: Place, options: tuple[str, ...] = ()) -> None:
-    """Checks that recover.py keeps these messages of a damaged archive, and no other bytes. It also has to report the
-    offset, the length and the error of each place that it skips."""
+    """Checks that recover.py keeps these messages of a damaged archive, and no other bytes. Also checks that recover.py
+    reports the offset, the length and the error of each range of bytes that it skips."""
     Path("damaged").write_bytes(damaged)
     whole = b"".join(kept)
     out, errors, status = script("recover.py", "--good", "good", *options, "damaged")
@@ -88,7 +88,8 @@ def sized(message: bytes, words: int) -> bytes:
 
 
 def recover(source: random.Random, messages: list[bytes]) -> None:
-    """Damages an archive in the middle, by each kind of damage, and checks the line that names the damage."""
+    """Damages an archive in the middle, by each kind of damage. Checks that recover.py prints the right line for the
+    damage."""
     Path("good").write_bytes(b"".join(messages[:100]))
     before, after = messages[:150], messages[150:]
     head, tail = b"".join(before), b"".join(after)
@@ -101,8 +102,8 @@ def recover(source: random.Random, messages: list[bytes]) -> None:
         began = seconds()
         recovered(f"{size} bytes of garbage", head + garbage + tail, messages, (at, size, fault))
         see(seconds() - began < 2, f"{size} bytes of garbage took {seconds() - began} seconds of a processor")
-    # The segment table announces one word too few, one too many, as many words as the message and the next one
-    # together, and more words than the archive has.
+    # The damaged segment table announces one word too few, one word too many, as many words as the message and the next
+    # message together, 5,000 words, or more words than the archive has.
     words = first // 8 - 1
     for said in (words - 1, words + 1, words + len(after[1]) // 8, 5000, 1 << 24):
         table = sized(after[0], said)
@@ -113,7 +114,7 @@ def recover(source: random.Random, messages: list[bytes]) -> None:
     recovered("zeros", head + zeros, before + after[3:], (at, sum(map(len, after[:3])), fault_of(zeros)))
     recovered("13 bytes lost", head + rest[13:], before + after[2:], (at, len(after[1]) - 13, fault_of(rest[13:])))
     # Tries archives with two rejected messages and a good message between them, with long messages, and with a message
-    # that has a gap. Nothing of the message with a gap may be lost.
+    # that has a gap. recover.py must not lose the message with a gap.
     refused = REFUSED + after[0] + REFUSED
     recovered("two refused", head + refused + rest, messages, (at, len(REFUSED), fault_of(REFUSED)),
               (at + len(refused) - len(REFUSED), len(REFUSED), fault_of(REFUSED)))
@@ -123,8 +124,8 @@ def recover(source: random.Random, messages: list[bytes]) -> None:
     recovered("a message with a gap", head + gap + tail, before + [gap] + after)
     last = len(messages[-1])
     recovered("a cut", (head + tail)[:-8], messages[:-1], (len(head + tail) - last, last - 8, "frame: Cut"))
-    # A message inside a rejected message is taken for a message of the archive, unless the option says that messages
-    # hold others.
+    # A rejected message contains another message. recover.py takes the inner message for a message of the archive,
+    # unless its option says that messages hold others.
     holder = nested(after[0])
     holder = holder[:23] + b"\x7f" + holder[24:]
     fault = fault_of(holder)
@@ -136,8 +137,8 @@ def recover(source: random.Random, messages: list[bytes]) -> None:
 
 
 def parallel(messages: list[bytes]) -> None:
-    """Compares the output of the processes for parts with the output of one process. Some archives are valid, some have
-    rejected messages, and some are truncated."""
+    """Compares parallel.py, which runs one process for each part of an archive, with one process for the whole archive.
+    Some archives are valid, some have rejected messages, and some are truncated."""
     some = [it if n % 70 else REFUSED for n, it in enumerate(messages)]
     capability = framed([1 << 48, 3])
     archives = {
@@ -173,8 +174,8 @@ def texted(text: str) -> bytes:
 
 
 def search() -> None:
-    """Searches for texts that some messages have, for a text that no message has, and for a text that more messages
-    have than a list of numbers can hold. Also searches in archives with rejected messages."""
+    """Tests search.sh. It searches for texts that some messages have, for a text that no message has, and for a text
+    that more messages have than fit into one list of numbers. It also searches archives with rejected messages."""
     ada, grace, without = texted("Ada"), texted('Grace "Hopper"'), canonical(5)
     Path("archive").write_bytes(ada + without + grace + ada)
     see(shell("search.sh", "archive", "0", "Ada") == (ada + ada, "", 0), "messages with Ada")
@@ -191,8 +192,8 @@ def search() -> None:
 
 
 def differences() -> None:
-    """Compares archives with the same values, with other values, with messages that only one of them has, and with
-    rejected messages."""
+    """Tests differences.sh on archives with the same values, with other values, with messages that only one archive
+    has, and with rejected messages."""
     five, same = framed([2 << 32, 5, 0]), framed([1 << 32, 5])
     others = {n: framed([1 << 32, n]) for n in (6, 7, 8, 9)}
 

@@ -22,7 +22,7 @@ PASSED_OVER = b" messages refused, the first is "
 
 @dataclass(frozen=True)
 class Part:
-    """Consecutive complete messages of a file: the file, and the range of their bytes."""
+    """A part of a file: the path of the file, and a range of bytes with complete messages."""
 
     path: str
     offset: int
@@ -36,7 +36,7 @@ class Part:
 
 @dataclass(frozen=True)
 class Message:
-    """A message: where it begins and ends, and its digest, or the error for which it has no digest."""
+    """A message: where it begins and ends, and its digest. A message without a digest has the error instead."""
 
     begin: int
     end: int
@@ -46,8 +46,8 @@ class Message:
 
 @dataclass
 class Report:
-    """The result: the number of messages, the number of messages that were kept, and the number, the offset and the
-    error of each rejected message."""
+    """The counts for a report: the number of messages, and the number of messages that were kept. It also has the
+    number, the offset and the error of each rejected message."""
 
     messages: int = 0
     kept: int = 0
@@ -55,8 +55,8 @@ class Report:
 
 
 def capn(*words: str, **given: Any) -> bytes:
-    """Returns the output of `capn`. The status of `capn` may say that rejected messages were skipped. Any other failure
-    raises an exception."""
+    """Runs `capn`, and returns its output. The exit status of `capn` may say that rejected messages were skipped. Any
+    other failure raises an exception."""
     ran = subprocess.run([os.environ.get("CAPN", "capn"), *words], capture_output=True, check=False, **given)
     if ran.returncode and not (ran.stderr.count(b"\n") == 1 and PASSED_OVER in ran.stderr):
         raise RuntimeError(f"capn {' '.join(words)}: status {ran.returncode}: {ran.stderr.decode().strip()}")
@@ -96,19 +96,20 @@ def cut(path: str, most: int) -> list[Part]:
 
 
 def digests(part: Part) -> list[Message]:
-    """Returns the messages of a part, each checked and with the digest of its canonical bytes."""
+    """Returns the messages of a part. Each message is checked, and has the digest of its canonical bytes."""
     return messages_of(capn("list", "--digest", "--keep-going", input=part.read()))
 
 
 def frames(part: Part, kept: list[Message], is_canonical: bool) -> bytes:
-    """Returns messages of a part with their segment tables, as they are or in canonical form."""
+    """Returns the bytes of some messages of a part, with their segment tables. The messages are unchanged or in
+    canonical form."""
     data = part.read()
     found = b"".join(data[message.begin:message.end] for message in kept)
     return capn("canonical", "--framed", input=found) if is_canonical else found
 
 
 class Choice:
-    """Chooses the first message of each value, part by part, and counts the messages."""
+    """Chooses the first message of each value, from one part after the other. Also counts the messages."""
 
     def __init__(self) -> None:
         self.seen: set[str] = set()
@@ -116,7 +117,7 @@ class Choice:
         self.offset = 0
 
     def of(self, part: Part, messages: list[Message]) -> list[Message]:
-        """Returns which messages of the next part are kept."""
+        """Returns the messages of the next part that are kept."""
         kept = []
         for number, message in enumerate(messages, self.report.messages + 1):
             if message.refusal:
@@ -131,13 +132,13 @@ class Choice:
 
 
 def tasks(client: Client, *call: Any, **options: Any) -> list[Future]:
-    """Returns a task for each argument of a call. Each task has a new key. Dask would make keys from the content, and
-    two equal parts would get the same key."""
+    """Returns a Dask task for each argument of a call. With pure=False, each task has a new key. Otherwise Dask would
+    make the keys from the arguments, and two equal parts would get the same key."""
     return client.map(*call, **options, pure=False)
 
 
 def dedupe(client: Client, paths: list[str], out: BinaryIO, most: int, is_canonical: bool) -> Report:
-    """Writes the first message of each value in these files, in the order of the files."""
+    """Writes the first message of each value in these files. The messages are in the order of the files."""
     parts = [part for found in tasks(client, cut, paths, most=most) for part in found.result()]
     choice = Choice()
     kept = [choice.of(part, found.result()) for part, found in zip(parts, tasks(client, digests, parts))]
@@ -147,7 +148,7 @@ def dedupe(client: Client, paths: list[str], out: BinaryIO, most: int, is_canoni
 
 
 def told(report: Report) -> str:
-    """Returns the lines of a report. The last line equals the line of `capn`."""
+    """Returns the lines of a report. The last line equals the line that `capn` prints."""
     lines = [f"{report.kept} of {report.messages - len(report.refused)}"]
     lines += [f"message {number} at {offset}: {refusal}" for number, offset, refusal in report.refused]
     if report.refused:
@@ -157,8 +158,8 @@ def told(report: Report) -> str:
 
 
 def write(client: Client, paths: list[str], options: argparse.Namespace) -> Report:
-    """Writes the result into a temporary file in the same folder, and renames that file when it is complete. Until then
-    the old file stays."""
+    """Writes the result into a temporary file in the same folder, and renames this file when it is complete. Until then
+    the old result stays."""
     folder, name = os.path.split(os.path.abspath(options.out))
     with tempfile.NamedTemporaryFile(dir=folder, prefix=f".{name}.", delete=False) as out:
         try:

@@ -1,4 +1,4 @@
-"""Writes archives on which the example can be tried: messages.py FOLDER MESSAGES FILES.
+"""Writes archives for trying dedupe.py. Usage: messages.py FOLDER MESSAGES FILES
 
 A message is a number and its text in one of three layouts: canonical, with an additional zero word, or in two segments.
 Most values occur several times. One of each 5,000 messages is rejected, and one message has a capability.
@@ -13,7 +13,7 @@ from pathlib import Path
 
 
 def framed(*segments: list[int]) -> bytes:
-    """Returns a message of these segments, after its segment table."""
+    """Returns a message that consists of these segments, after its segment table."""
     table = struct.pack(f"<{len(segments) + 1}I", len(segments) - 1, *map(len, segments))
     contents = b"".join(struct.pack(f"<{len(words)}Q", *words) for words in segments)
     return table + bytes(-len(table) % 8) + contents
@@ -42,7 +42,7 @@ def in_two_segments(number: int) -> bytes:
 
 
 def message(source: random.Random, at: int, values: int) -> bytes:
-    """Returns the message at this place of the archive."""
+    """Returns the message with this number in the archive."""
     if at % 5000 == 1000:
         return framed([1 << 32 | 9 << 2])
     if at % 5000 == 3000:

@@ -1,5 +1,5 @@
-"""Tests the example on a local cluster of two workers: trial.py FOLDER. While the example runs, the test ends one
-worker.
+"""Tests dedupe.py on a local cluster of two workers. While dedupe.py runs, the test ends one worker. Usage: trial.py
+FOLDER
 
 The test fails if the output or the counts for the folder's archives differ from those of one process of `capn`.
 """
@@ -17,12 +17,13 @@ from pathlib import Path
 from dedupe import Report, dedupe, told
 from distributed import Client, LocalCluster
 
-# The most bytes of a part, and how many parts are written before a worker is ended.
+# The greatest number of bytes of a part, and the number of parts that are written before a worker is ended.
 MOST, BEFORE = 1 << 17, 5
 
 
 class Ending(io.BytesIO):
-    """An output that ends a worker once some parts have been written. It ends the worker that has the most results."""
+    """A file for the output of dedupe.py. After some parts are written, it ends the worker that has the most
+    results."""
 
     def __init__(self, client: Client) -> None:
         super().__init__()
@@ -41,27 +42,27 @@ class Ending(io.BytesIO):
 
 
 def by_one_process(data: bytes, *words: str) -> tuple[bytes, str]:
-    """Returns the output of one process of `capn`, and its line on standard error."""
+    """Runs one process of `capn`. Returns its output, and its line on standard error."""
     ran = subprocess.run([os.environ["CAPN"], *words], input=data, capture_output=True, check=False)
     return ran.stdout, ran.stderr.decode().removeprefix("capn: ").strip()
 
 
 def run_command(paths: list[str]) -> subprocess.CompletedProcess[bytes]:
-    """Runs the example's command without other workers. The command writes the result into the file `framed`."""
+    """Runs the command dedupe.py without a cluster. It writes the result into the file `framed`."""
     script = Path(__file__).with_name("dedupe.py")
     words = [sys.executable, "-B", str(script), "--canonical", "--most", str(MOST), "framed", *paths]
     return subprocess.run(words, capture_output=True, check=False)
 
 
 def by_command(paths: list[str]) -> tuple[bytes, str]:
-    """Returns the output of the example's command in canonical form, and its last line."""
+    """Runs the command dedupe.py. Returns the result in canonical form, and the last line of the output."""
     ran = run_command(paths)
     return Path("framed").read_bytes(), ran.stdout.decode().strip().split("\n")[-1]
 
 
 def is_named(paths: list[str]) -> bool:
-    """Runs the command on a truncated file. Returns whether the command names this file, keeps the result of an earlier
-    run, and leaves no other file beside the result."""
+    """Runs the command dedupe.py on a truncated file. Returns whether it names this file, keeps the result of an
+    earlier run, and leaves no other file beside the result."""
     before = Path("framed").read_bytes()
     cut = Path("cut.messages")
     cut.write_bytes(Path(paths[0]).read_bytes()[:-8])
@@ -73,7 +74,7 @@ def is_named(paths: list[str]) -> bool:
 
 
 def is_counted(report: Report, data: bytes) -> bool:
-    """Returns whether a report has the same counts and the same line as one process of `capn`."""
+    """Returns whether the counts and the last line of a report equal those of one process of `capn`."""
     counted, line = by_one_process(data, "uniq", "--count", "--keep-going")
     lines = told(report).split("\n")
     return lines[0] == counted.decode().strip() and lines[-1] == line
