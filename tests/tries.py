@@ -52,7 +52,7 @@ def tests_of(crate):
 
 
 def modules_of_calls(crate):
-    """Returns the modules that answer each call of a crate with test cases. For each call, these are the module of the
+    """Returns the modules that answer each call of a crate, if the crate has test cases. These are the module of the
     call and the modules that this module uses."""
     folder = os.path.join(TOP, "crates", crate, "src")
     modules = {name[:-3]: text_of("crates", crate, "src", name) for name in os.listdir(folder)}
@@ -68,8 +68,8 @@ def modules_of_calls(crate):
 
 
 def crates_of_calls(crate):
-    """Yields each call of a crate with test cases, and the crates that the answer to the call depends on. These are the
-    crates that the modules of the call name."""
+    """Yields each call of a crate that has test cases. With the call come the crates that the call's modules name,
+    since the answer depends on them."""
     for word, used in modules_of_calls(crate).items():
         texts = [text_of("crates", crate, "src", f"{one}.rt") for one in used]
         yield word, {name for text in texts for name in re.findall(r"^use (capn_\w+)", text, re.M)}

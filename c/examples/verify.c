@@ -6,7 +6,7 @@
 #include <string.h>
 
 int main(int count, char **words) {
-    static uint8_t bytes[(1 << 20) + 1]; /* one byte more than a message may have in this protocol */
+    static uint8_t bytes[(1 << 20) + 1]; /* one byte more than a message of this protocol may have */
     if (count != 3) return 2;
     FILE *file = fopen(words[1], "rb");
     if (!file) return 3;

@@ -121,7 +121,7 @@ class Sample:
 
 
 class Archive:
-    """A damaged archive, whose good messages are found."""
+    """A damaged archive, in which the script finds the good messages."""
 
     def __init__(self, path: str, sample: Sample, options: argparse.Namespace) -> None:
         self.path, self.sample, self.row, self.nested = path, sample, options.row, options.nested

@@ -109,7 +109,8 @@ def frames(part: Part, kept: list[Message], is_canonical: bool) -> bytes:
 
 
 class Choice:
-    """Chooses the first message of each value, from one part after the other. Also counts the messages."""
+    """Chooses the first of all messages with the same value. Takes one part after the other, and counts the
+    messages."""
 
     def __init__(self) -> None:
         self.seen: set[str] = set()
@@ -138,7 +139,8 @@ def tasks(client: Client, *call: Any, **options: Any) -> list[Future]:
 
 
 def dedupe(client: Client, paths: list[str], out: BinaryIO, most: int, is_canonical: bool) -> Report:
-    """Writes the first message of each value in these files. The messages are in the order of the files."""
+    """Writes the messages of these files without duplicates, in the order of the files. Of messages with the same
+    value, only the first is written."""
     parts = [part for found in tasks(client, cut, paths, most=most) for part in found.result()]
     choice = Choice()
     kept = [choice.of(part, found.result()) for part, found in zip(parts, tasks(client, digests, parts))]

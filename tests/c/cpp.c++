@@ -732,8 +732,8 @@ static void canonical_lists() {
     const capn::value data = other.root().as_struct().slot(0);
     want("bytes aren't 16 bits", !data.try_list<std::uint16_t>() && !data.try_pointers());
     want("no list", !other.root().try_list<std::uint8_t>() && !other.root().try_pointers());
-    /* An older writer wrote a list of bytes, and the reader reads the list as structs. A field that is wider than a
-     * byte has its default value. */
+    /* This list was written as a list of bytes, and the test reads it as a list of structs. A field that is wider than
+     * a byte has its default value. */
     const std::string older = framed(words({1ull << 48, 1 | 0xaull << 32, 5}));
     const capn::index of_older = capn::index::of(older);
     std::uint16_t field = 0;

@@ -1,5 +1,4 @@
-// The programs in this file test what capn.hpp lets a compiler reject. Some programs must not compile, and the right
-// programs must compile.
+// The programs in this file test that a wrong use of capn.hpp doesn't compile, and that right programs compile.
 //
 // Each number of the macro CASE adds a wrong program. It would read bytes after the object that owns them is destroyed,
 // or it confuses two numbers. A compiler has to reject this program. The line of a case begins with a word and a colon,

@@ -159,8 +159,8 @@ static uint64_t read_record(const capn_record *record) {
 
 static volatile uint64_t kept; /* results go here, so that the compiler keeps the reads */
 
-/* Returns how many readings of an index entry succeed. The readings are as a struct, as a text, as data, and as each
- * kind of list. */
+/* Reads an index entry as a struct, as a text, as data, and as each kind of list. Returns how many of these readings
+ * succeed. */
 static int read_any(const capn_entry *entry) {
     capn_record record;
     capn_items items;
@@ -293,7 +293,7 @@ static uint8_t *alone(const uint8_t *from, size_t size) {
     return message;
 }
 
-/* Prints the lines for each message that mixed.py wrote. Each message comes after its length. */
+/* Prints a line for each pointer of the messages that mixed.py wrote. Each message comes after its length. */
 static int show_lines(void) {
     size_t have;
     uint8_t *all = all_of_input(&have);

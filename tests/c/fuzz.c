@@ -2,7 +2,7 @@
  * another, and must not read outside of the bytes. Each line of standard input ends with bytes in hexadecimal. The
  * program passes these bytes, and copies of them with some bytes changed. The changes come from a fixed seed. */
 
-/* A fuzzer calls the function LLVMFuzzerTestOneInput of this file. The command to build the fuzzer:
+/* A fuzzer calls the function LLVMFuzzerTestOneInput of this file. This command builds the fuzzer:
  *
  *     clang -DFUZZER -fsanitize=fuzzer,address -I c tests/c/fuzz.c build/libcapn.a */
 #include "usual.h"
@@ -47,7 +47,7 @@ static void accepted(uint32_t form, const uint8_t *bytes, size_t size, const cap
     free(again);
 }
 
-/* Returns how many bytes of content an entry describes. */
+/* Returns the number of bytes of the content of an object, from the object's index entry. */
 static uint64_t content(const capn_entry *e) {
     const uint64_t object = 8 * ((uint64_t)e->words + e->slots);
     switch (e->kind) {
@@ -62,8 +62,9 @@ static uint64_t content(const capn_entry *e) {
     }
 }
 
-/* Tests the entry at i and all entries below it. Its content lies within the bytes. The entries of the object's
- * pointers follow one another, and the span ends with the last of them. A null pointer has a null entry. */
+/* Tests entry i of an index, and all entries below it. The content of an object must lie within the bytes. The entries
+ * for the object's pointers must follow one another, and the object's span must end with the last of them. A null
+ * pointer must have a null entry. */
 static void entry(const capn_entry *all, size_t count, size_t i, const uint8_t *bytes, size_t size) {
     const capn_entry *e = &all[i];
     need(e->span >= 1 && e->span <= count - i, "a span", bytes, size);
@@ -104,7 +105,7 @@ static void indexed(uint32_t form, const uint8_t *bytes, size_t size, capn_statu
     need(figures.depth < 2 || capn_check(form, bytes, size, &lower, &report) == CAPN_TOO_DEEP, "less", bytes, size);
     const size_t count = checked->visits;
     need(figures.visits == count && figures.paid == checked->paid, "the figures", bytes, size);
-    /* has exactly this size, so that a sanitizer detects an access past the end */
+    /* This block has exactly the size of the entries, so that a sanitizer detects an access past the end. */
     capn_entry *all = malloc(count * sizeof *all);
     for (size_t room = count - 1; room <= count; room++) {
         memset(all, 0x55, count * sizeof *all);
@@ -175,7 +176,7 @@ static void packing(const uint8_t *bytes, size_t size) {
 }
 
 int LLVMFuzzerTestOneInput(const uint8_t *data, size_t size) {
-    /* has exactly this size, so that a sanitizer detects a read past the end */
+    /* This copy has exactly the size of the input, so that a sanitizer detects a read past the end. */
     uint8_t *bytes = malloc(size ? size : 1);
     if (size) memcpy(bytes, data, size);
     limits = limits_of(1u << 16, 1u << 16, 64, CAPN_STRICT);
@@ -186,7 +187,7 @@ int LLVMFuzzerTestOneInput(const uint8_t *data, size_t size) {
 }
 
 #ifndef FUZZER
-/* How many changed copies of each input are tried. */
+/* The number of changed copies that are tried for each input. */
 #ifndef COPIES
 #define COPIES 40
 #endif
@@ -199,7 +200,7 @@ static uint32_t any(uint32_t below) {
     return (uint32_t)(seed >> 32) % below;
 }
 
-/* Changes one to four bytes, and sometimes cuts the end off. */
+/* Changes one to four bytes of an input, and sometimes cuts off the end of the input. */
 static size_t change(uint8_t *bytes, size_t size) {
     const uint8_t special[6] = {0, 1, 2, 7, 0x80, 0xff};
     for (uint32_t times = 1 + any(4); times && size; times--) {

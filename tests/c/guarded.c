@@ -130,7 +130,7 @@ static size_t message(uint8_t *out, int bare) {
     return size;
 }
 
-/* Changes one to four bytes, and sometimes cuts the end off or appends bytes. */
+/* Changes one to four bytes of an input. Sometimes cuts off the end of the input, or appends bytes. */
 static size_t change(uint8_t *bytes, size_t size) {
     const uint8_t special[6] = {0, 1, 2, 7, 0x80, 0xff};
     for (uint32_t times = 1 + any(4); times && size; times--) {
@@ -224,7 +224,7 @@ static size_t room_for(size_t enough) {
 /* The status of the current call. */
 static capn_status status;
 
-/* Makes one call on the input. Returns the length that the call reported as enough. */
+/* Makes one call on the input. Returns the buffer size that the call reported as enough. */
 static size_t call(uint32_t which, const uint8_t *bytes, size_t size, size_t enough) {
     written_count = 0;
     capn_report *r = (capn_report *)filled(of_report, sizeof *r);
@@ -312,8 +312,8 @@ static size_t call(uint32_t which, const uint8_t *bytes, size_t size, size_t eno
     case 11: {
         doing = "capn_same";
         uint32_t *told = any(4) ? (uint32_t *)(void *)filled(of_other, sizeof *told) : NULL;
-        /* The second message is the whole first message, or all bytes of the first message from some byte on, or up to
-         * some byte. */
+        /* The second message is the whole first message, its first bytes up to some byte, or its last bytes from some
+         * byte on. */
         const uint32_t of = size ? any(3) : 0, at = of ? any((uint32_t)size + 1) : 0;
         const uint8_t *second = of == 1 ? bytes + at : bytes;
         const size_t most = of == 1 ? size - at : of ? at : size;
@@ -325,7 +325,7 @@ static size_t call(uint32_t which, const uint8_t *bytes, size_t size, size_t eno
     case 12: {
         doing = "capn_canonical_with_scratch";
         const size_t lent = any(3) ? any(ROOM / 8) : any(3);
-        uint8_t *scratch = part(of_other, 8 * lent); /* the contents of the scratch mean nothing after the call */
+        uint8_t *scratch = part(of_other, 8 * lent); /* the contents of this memory mean nothing after the call */
         out = filled(of_out, room);
         status = capn_canonical_with_scratch(form, bytes, size, limits, scratch, lent, out, room, r);
         need(status != CAPN_MEMORY, "no memory is asked for");

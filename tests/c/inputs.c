@@ -131,7 +131,7 @@ static void nothing(void) {
     blank("its report", &r);
 }
 
-/* The numbers among the limits: where each lies in capn_limits, and its range. */
+/* The limits that are numbers. Each has its offset in capn_limits and its range. */
 static const struct {
     size_t at;
     uint32_t least, most;
@@ -160,7 +160,7 @@ static void ranges(void) {
         least = with(least, numbers[i].at, numbers[i].least);
         greatest = with(greatest, numbers[i].at, numbers[i].most);
     }
-    /* The last limits have two errors: the bad limit of the entry before them, and a bad counting rule (tariff). */
+    /* The last entry has two errors: the same bad limit as the entry before it, and a bad counting rule (tariff). */
     bad[count] = bad[count - 1];
     bad[count++].tariff = 9;
     const uint32_t forms[] = {0, 1, 2, 3, 4, UINT32_MAX}, tariffs[] = {2, 3, UINT32_MAX};
@@ -265,8 +265,8 @@ static void hostile(void) {
     want("itself, lower budget", capn_canonical(CAPN_BARE, self, 8, &low, NULL, 0, &r), CAPN_OVER_BUDGET);
     want("paid", r.paid, 100);
     for (int i = 0; i < 32; i++) want("a digest that was refused", digest[i], 0xAA);
-    /* Passes the first bytes of a message, of each length, as they are and with one byte changed. No call may read a
-     * byte past the end. */
+    /* Passes each prefix of a message, unchanged and with one byte changed. No call may read a byte past the end of the
+     * prefix. */
     for (size_t size = 0; size <= 32; size++)
         for (int bit = 0; bit < 256; bit++) {
             uint8_t *bytes = malloc(size ? size : 1), out[8];

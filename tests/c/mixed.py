@@ -96,7 +96,7 @@ def valid(rng):
 
 
 def changed(rng, message, pointer):
-    """Returns a message with one to three changes."""
+    """Returns a message after one to three random changes."""
     message = bytearray(message)
     for _ in range(rng.choice([1, 1, 1, 2, 3])):
         kind, places = rng.random(), len(message) // 8

@@ -1,6 +1,6 @@
 /* Tests the version, the texts of the statuses, capn_first and capn_unpack_some. The last two calls read in chunks.
- * They get the first bytes of a message or of packed bytes, of each length, with each size of buffer. The memory lies
- * at any address, next to a page that can't be accessed. */
+ * They get each prefix of a message or of packed bytes, with each size of buffer. The memory lies at any address, next
+ * to a page that can't be accessed. */
 #define TEST "pieces"
 #include "wanted.h"
 
@@ -50,9 +50,9 @@ static void is_first(const char *what, const uint8_t *bytes, size_t size, capn_s
     want("no more", r.at | r.paid | r.visits | r.segment | r.word, 0);
 }
 
-/* Passes the first bytes of messages of one to five segments to capn_first, of each length and at each address. At
- * first the call reports that it needs 8 bytes, then the length of the segment table, and then the length of the
- * message. If the message is complete, with or without bytes after it, the call reports the message's length. */
+/* Passes each prefix of messages of one to five segments to capn_first, at each address. At first the call reports that
+ * it needs 8 bytes, then the length of the segment table, and then the length of the message. If the message is
+ * complete, with or without bytes after it, the call reports the message's length. */
 static void beginnings(void) {
     static const uint32_t sizes[5] = {2, 0, 3, 1, 4};
     uint8_t bytes[160];
@@ -106,9 +106,8 @@ static void make_words(void) {
     text_size = r.length;
 }
 
-/* Passes the first packed bytes of each length to capn_unpack_some, with each size of buffer. The call has to write the
- * first bytes of the words. The packed bytes that the call took have to unpack to the written bytes. Nothing else may
- * change. */
+/* Passes each prefix of the packed bytes to capn_unpack_some, with each size of buffer. The call has to write a prefix
+ * of the words. The packed bytes that the call took have to unpack to the written bytes. Nothing else may change. */
 static void some(void) {
     for (size_t size = 0; size <= text_size; size++)
         for (size_t room = 0; room <= sizeof words + 9; room += room < 64 ? 1 : 7) {

@@ -1,8 +1,8 @@
-/* Tests capn_same, which compares two messages. Some messages are written by hand. Others are the bytes in hexadecimal
- * at which each line of standard input ends, in each form (stream, packed and bare) and with some limits. Each of the
- * unpacked messages is compared with all others. The status, the report and `which` must be as the results of
- * capn_canonical on the two messages require. capn_same may allocate as often as capn_check does for the messages that
- * capn_same reads. The test also fails each of these allocations. */
+/* Tests capn_same, which compares two messages. Some messages are written by hand. Others come from standard input,
+ * where each line ends with bytes in hexadecimal. They are read in each form (stream, packed and bare) and with some
+ * limits. Each of the unpacked messages is compared with all others. The status, the report and `which` must follow
+ * from the results of capn_canonical for the two messages. capn_same may allocate as often as capn_check does for the
+ * messages that capn_same reads. The test also fails each of these allocations. */
 #define TEST "same"
 #include "refusing.h"
 #include "wanted.h"

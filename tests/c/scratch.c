@@ -1,8 +1,8 @@
 /* Tests capn_canonical_with_scratch, which gets scratch memory from the caller. Some messages are written by hand.
- * Others are the bytes in hexadecimal at which each line of standard input ends, in each form (stream, packed and bare)
- * and with some limits. If there is enough scratch memory, the call has to return and report what capn_canonical does.
- * If there is one word less than the call needs, the call has to report again how much it needs. The call must never
- * allocate. */
+ * Others come from standard input, where each line ends with bytes in hexadecimal. They are read in each form (stream,
+ * packed and bare) and with some limits. If there is enough scratch memory, the call has to return and report what
+ * capn_canonical does. If there is one word less than the call needs, the call has to report again how much it needs.
+ * The call must never allocate. */
 #define TEST "scratch"
 #include "refusing.h"
 #include "wanted.h"

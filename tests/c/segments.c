@@ -56,7 +56,7 @@ static void compare(const capn_segment *segments, size_t count, const uint8_t *f
         wanted = capn_canonical(CAPN_STREAM, frame, size, limits, other, room, &told);
         same("canonical", status, wanted, &report, &told, out, other, room);
         if (status > CAPN_NO_ROOM) break;
-        /* the buffer has exactly the length in the second round, and one byte less in the third */
+        /* in the second round the buffer has exactly the needed length, and in the third round one byte less */
         room = round ? told.length - 1 : told.length;
     }
     free(out);

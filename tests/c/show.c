@@ -41,7 +41,7 @@ static int is_untouched(const char *out, size_t size) {
 }
 
 /* Returns the dump of a message, or NULL if the message is rejected. It calls capn_show with a buffer of size 0, with a
- * buffer of exactly the length, and with buffers of one byte more and less. */
+ * buffer of exactly the dump's length, and with buffers of one byte more and less. */
 static char *text_of(const struct input *in, size_t *length, capn_status *status, capn_report *report) {
     *status = show(in, NULL, 0, report);
     if (*status != CAPN_NO_ROOM) {

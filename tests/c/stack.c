@@ -1,10 +1,10 @@
 /* Measures the stack that each call needs. It fills the stacks of threads with a pattern, and looks how much of the
  * pattern is left. The messages are chains of objects as deep as the limit allows. They have one segment, two segments,
- * or more segments than a call reads without an allocation. The program fails if a call needs more than a bound.
- *
- *     stack BASE OTHERS SHOW INDEX SAME   BASE is the number of bytes that every call may need. The others are the
- *                                         bytes for each level of depth: for all other calls, and for capn_show,
- *                                         capn_index and capn_same */
+ * or more segments than a call reads without an allocation. The program fails if a call needs more than a bound. */
+
+/* The arguments are the bounds: stack BASE OTHERS SHOW INDEX SAME. Every call may need BASE bytes. The other arguments
+ * are the bytes that a call may need in addition for each level of depth. SHOW is for capn_show, INDEX for capn_index,
+ * SAME for capn_same, and OTHERS for all other calls. */
 #include "usual.h"
 #include <pthread.h>
 #include <stdio.h>

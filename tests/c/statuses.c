@@ -78,7 +78,7 @@ static void walks(const char *what, const uint64_t *words, size_t count, const c
     }
 }
 
-/* Makes the calls return the errors of pointers, and the error of a capability. */
+/* Tests the errors for invalid pointers, and the error for a capability. */
 static void walked(void) {
     const capn_limits shallow = limits_of(3, 100, 1, CAPN_STRICT), poor = limits_of(3, 1, 64, CAPN_STRICT);
     const uint64_t null = 0, capability = 3, reserved = 7, far = 2 | 9ull << 32, beyond = 2 | 9 << 3;
@@ -101,8 +101,7 @@ static void walked(void) {
     walks("a null root", &null, 1, &usual, CAPN_OK, 0);
 }
 
-/* Makes the calls return the errors of packed bytes and of the segment table. Tests the number in the report of each
- * error. */
+/* Tests the errors for packed bytes and for the segment table, and the number in the report of each error. */
 static void read_as(const char *what, uint32_t form, const void *bytes, size_t size, const capn_limits *limits,
                     uint32_t wanted, uint64_t at) {
     capn_report told = each_call(what, form, bytes, size, limits, wanted);
@@ -155,8 +154,7 @@ static void too_long(void) {
     munmap(bytes, 8 * words);
 }
 
-/* Makes the calls return the errors of arguments, the error of a buffer that is too small, and the error of bytes that
- * aren't canonical. */
+/* Tests the errors for invalid arguments, for a buffer that is too small, and for bytes that aren't canonical. */
 static void called(void) {
     const uint8_t message[24] = {0, 0, 0, 0, 2, 0, 0, 0, 0, 0, 0, 0, 1, 0, 0, 0, 0};
     const capn_limits none = limits_of(0, 1, 1, CAPN_STRICT), third = limits_of(1, 1, 1, 2);

@@ -8,7 +8,7 @@
 
 static uint8_t *of_digits(const char *digits, size_t *size) {
     *size = strcmp(digits, "-") ? strlen(digits) / 2 : 0;
-    /* has exactly this size, so that a sanitizer detects a read past the end */
+    /* This block has exactly the size of the bytes, so that a sanitizer detects a read past the end. */
     uint8_t *bytes = *size ? malloc(*size) : NULL;
     for (size_t i = 0; i < *size; i++) {
         unsigned byte;
@@ -39,8 +39,8 @@ static void fail(const char *why) {
     printf("broken: %s", why);
 }
 
-/* A function that makes a call which writes to a buffer. The test passes buffers of size 0, of exactly the length, and
- * of one byte less. */
+/* A function that makes a call which writes to a buffer. The test passes buffers of size 0, of exactly the needed
+ * length, and of one byte less. */
 typedef capn_status into(const void *call, uint8_t *out, size_t room, capn_report *report);
 
 static void with_rooms(into *make, const void *call, int is_measured, int is_priced) {
