@@ -1,5 +1,5 @@
 /* The texts of the library: its version, a text for each status, and the text of an error with its place. The code of
- * this file isn't proved. It keeps no state, and reads and writes only its arguments. */
+ * this file isn't proved (formally verified). It keeps no state, and reads and writes only its arguments. */
 #include "capn.h"
 
 #ifndef CAPN_VERSION_TEXT

@@ -128,7 +128,8 @@ def put_together(found: Iterator[Answer]) -> tuple[bytes, int]:
 
 
 def limits_of(options: list[str]) -> list[str]:
-    """Returns the options among these that set limits. The script also uses these limits when it splits the archive."""
+    """From the options of the command, returns those that set limits. The script also uses these limits when it splits
+    the archive."""
     found: list[str] = []
     for at, option in enumerate(options):
         if option in LIMITS:

@@ -109,8 +109,8 @@ static void answers() {
     want("limits of words", capn::is_canonical_words(loose, {}) && thrown<capn::refusal>([&] {
                                 (void)capn::is_canonical_words(loose, few);
                             }) == "OverBudget at 0:0, paid 0, visits 1");
-    /* The deprecated overload of `is_canonical` without a form still works. It takes the bytes as a single segment
-     * without a segment table. */
+    /* The deprecated overload of `is_canonical` without a form (stream, packed or bare) still works. It takes the bytes
+     * as a single segment without a segment table. */
 #if defined(__GNUC__)
 #pragma GCC diagnostic push
 #pragma GCC diagnostic ignored "-Wdeprecated-declarations"

@@ -87,7 +87,7 @@ static void entry(const capn_entry *all, size_t count, size_t i, const uint8_t *
     need(next == i + e->span, "the end of a span", bytes, size);
 }
 
-/* capn_survey and capn_index must report what capn_check reported, unless the form is packed. */
+/* For a stream or a bare message, capn_survey and capn_index must report the same as capn_check. */
 static void indexed(uint32_t form, const uint8_t *bytes, size_t size, capn_status check, const capn_report *checked) {
     capn_figures figures;
     capn_report report;

@@ -19,8 +19,8 @@ def digits(data):
 
 
 def priced(words, data):
-    """Returns what `capn check` prints: the cost of a message, the number of pointers followed, and whether a bare
-    message is canonical."""
+    """Returns what `capn check` prints: the cost of a message, the number of pointers followed, and whether a single
+    segment without a table (`bare`) is canonical."""
     status, wrote, refusal = run(["check", *words], data)
     if status:
         return None, None, refusal

@@ -1,7 +1,7 @@
-/* Tests capn_show. With the argument `answers`, each line of standard input is a stored run of `capn show`. The program
- * prints the library's output for the bytes of the run, in the format of the stored outputs. With the argument
- * `agrees`, it compares capn_show with capn_check on the bytes at the end of each line, in each form and style. It also
- * fails each allocation of capn_show once. */
+/* Tests capn_show. With the argument `answers`, each line of standard input is a test case with a run of `capn show`.
+ * The program prints the library's output for the bytes of the run, in the format of the expected outputs. With the
+ * argument `agrees`, it compares capn_show with capn_check on the bytes at the end of each line, in each form (stream,
+ * packed and bare) and style. It also fails each allocation of capn_show once. */
 #define TEST "show"
 #include "refusing.h"
 #include "wanted.h"
@@ -113,8 +113,9 @@ static void agrees(uint32_t form, const uint8_t *bytes, size_t size, const capn_
     }
 }
 
-/* Prints what `capn show` prints: the dumps of the messages of a stream, or the dump of one packed or bare message.
- * Then prints the exit status or the error. */
+/* Prints the result of a run of `capn show`, as the calls of the library give it. The result is the status, the output
+ * in hexadecimal, and the error. The output has the dumps of the messages of a stream, or the dump of one message that
+ * is packed or has no segment table. */
 static void answer(char *line) {
     char *word[16], text[128];
     int count = 0;
