@@ -68,8 +68,8 @@ def modules_of_calls(crate):
 
 
 def crates_of_calls(crate):
-    """Yields each call of a crate that has test cases. With the call come the crates that the call's modules name,
-    since the answer depends on them."""
+    """Yields each call of a crate that has test cases, and the crates that the modules of the call name. The answer to
+    the call depends on these crates."""
     for word, used in modules_of_calls(crate).items():
         texts = [text_of("crates", crate, "src", f"{one}.rt") for one in used]
         yield word, {name for text in texts for name in re.findall(r"^use (capn_\w+)", text, re.M)}
