@@ -1,7 +1,7 @@
-/* The calls of capn.h. Each call replaces a null `limits`, `report` or `which`, and then makes the proved call
- * (formally verified) of the same name. `make linked` renames the proved calls to proved_capn_*, and hides them. The
- * code of this file isn't proved. It keeps no state, and reads and writes only its arguments. If no argument is null,
- * the code does two comparisons and a jump. */
+/* The calls of capn.h. If the argument `limits`, `report` or `which` of a call is null, the call replaces it. Then it
+ * makes the proved (formally verified) call of the same name. `make linked` renames the proved calls to proved_capn_*,
+ * and hides them. The code of this file isn't proved. It keeps no state, and reads and writes only its arguments. If no
+ * argument is null, the code does two comparisons and a jump. */
 #include "capn.h"
 
 static const capn_limits usual = CAPN_USUAL_LIMITS;

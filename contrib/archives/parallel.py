@@ -91,8 +91,8 @@ def answer(path: str, part: Part, command: list[str]) -> Answer:
 
 
 def answers(path: str, parts: Iterator[Part], command: list[str], processes: int) -> Iterator[Answer]:
-    """Runs the command on each part in a process of its own, and yields the outputs in order. A few more parts are
-    started than processes run at once."""
+    """Runs the command on each part in a process of its own, and yields the outputs in order. While all processes are
+    busy, a few more parts wait."""
     waiting: deque[Future[Answer]] = deque()
     with ProcessPoolExecutor(processes) as pool:
         try:

@@ -115,8 +115,8 @@ class Sample:
         return message.cost is not None and (message.cost > 0 or self.has_null)
 
     def is_like(self, message: Message) -> bool:
-        """Returns whether a message is accepted and looks like the messages of the sample. It must not be longer, and
-        must not have more unused words, than these messages."""
+        """Returns whether a message is accepted and looks like the messages of the sample. It must not be longer than
+        these messages. It must not have more unused words than they have."""
         return self.takes(message) and message.words <= min(self.words, self.unused + (message.cost or 0))
 
 
@@ -205,7 +205,7 @@ class Archive:
     def between(self, bad: Message, good: int) -> Iterator[Span]:
         """Yields the bytes from a bad message up to the next good message. If the segment tables lead from the bad
         message exactly to the good message, each message between the two begins where it should. Such a message is kept
-        if it is accepted, even if it is suspect."""
+        if it is accepted, even if it isn't like the messages of the sample."""
         end = bad.begin
         with closing(listed(self.path, bad.begin)) as found:
             for message in found:

@@ -21,8 +21,8 @@ from messages import canonical, framed, in_two_segments, with_zeros
 
 CAPN = os.environ["CAPN"]
 MEGABYTE = 1 << 20
-# How often the messages after a damaged segment table are repeated. One damaged table announces 5,000 words. So many
-# messages follow the table that these words end inside the archive.
+# How often the messages after a damaged segment table are repeated. One damaged table announces 5,000 words. The
+# repeated messages have so many words that the 5,000 words end inside the archive.
 MANY = 6
 Ran = tuple[bytes, str, int]
 Place = tuple[int, int, str]

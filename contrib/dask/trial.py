@@ -22,8 +22,8 @@ MOST, BEFORE = 1 << 17, 5
 
 
 class Ending(io.BytesIO):
-    """A file for the output of dedupe.py. After some parts are written, it ends the worker that has the most
-    results."""
+    """A file for the output of dedupe.py. After some parts are written, the method `write` ends the worker that has the
+    most results."""
 
     def __init__(self, client: Client) -> None:
         super().__init__()

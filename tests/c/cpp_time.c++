@@ -33,8 +33,8 @@ template <class C, class Plus> void beside(const char *name, std::size_t size, C
     failed |= least_plus > most * least;
 }
 
-/* Returns a message whose root is a list of `rows` structs, or a list of `bytes` bytes if that number isn't 0. Each
- * struct has a data word and a pointer to a text of 8 bytes. */
+/* Returns a message whose root is a list. If `bytes` isn't 0, it is a list of `bytes` bytes. Otherwise it is a list of
+ * `rows` structs, and each struct has a data word and a pointer to a text of 8 bytes. */
 std::vector<std::uint64_t> message_of(std::size_t rows, std::size_t bytes) {
     std::vector<std::uint64_t> words = {0};
     if (bytes) {

@@ -1,6 +1,6 @@
 /* Tests each call of capn.h when one of its allocations fails: the first, the second, and so on. The call has to return
- * CAPN_MEMORY, leave the buffer unchanged, set the report to 0, and free everything. Then makes the calls that need no
- * allocation while every allocation fails. These calls have to return the same as with memory. */
+ * CAPN_MEMORY, leave the buffer unchanged, set the report to 0, and free everything. Then every allocation fails, and
+ * the test makes the calls that need no allocation. These calls have to return the same as with memory. */
 #include "refusing.h"
 #include "usual.h"
 #include <stdio.h>
@@ -224,9 +224,9 @@ static void at_depth(uint32_t most, size_t depth, uint32_t wanted) {
     wants("index, 65 segments", indexed, &more, wanted == CAPN_OK ? 2 : 1, wanted);
 }
 
-/* Tests calls that return before they store anything, so that they need no memory. Their inputs are no bytes, a length
- * that isn't a multiple of 8, packed bytes whose first group is truncated or too long, and a segment table that is
- * truncated or announces too much. */
+/* Tests calls that return before they store anything, so that they need no memory. Their inputs are an empty input, a
+ * length that isn't a multiple of 8, packed bytes whose first group is truncated or too long, and a segment table that
+ * is truncated or announces too much. */
 static void unread(void) {
     const uint8_t cut[9] = {255}, head[8] = {1, 0, 0, 0, 1}, count[8] = {255, 255}, whole[16] = {1}, sizes[264] = {64};
     const input nothing = {CAPN_STREAM, NULL, 0, usual}, odd = {CAPN_BARE, cut, 9, usual};

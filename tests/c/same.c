@@ -2,7 +2,7 @@
  * where each line ends with bytes in hexadecimal. They are read in each form (stream, packed and bare) and with some
  * limits. Each of the unpacked messages is compared with all others. The status, the report and `which` must follow
  * from the results of capn_canonical for the two messages. capn_same may allocate as often as capn_check does for the
- * messages that capn_same reads. The test also fails each of these allocations. */
+ * messages that capn_same reads. The test also makes each of these allocations fail. */
 #define TEST "same"
 #include "refusing.h"
 #include "wanted.h"
@@ -72,7 +72,7 @@ static void pair(const struct input *a, const struct input *b) {
     else refused[of]++;
 }
 
-/* Fails each allocation of capn_same in turn: first the allocations for one message, and then those for the other
+/* Makes each allocation of capn_same fail in turn: first the allocations for one message, and then those for the other
  * message. */
 static void without_memory(const struct input *a, const struct input *b) {
     uint32_t which, of;

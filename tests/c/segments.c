@@ -2,8 +2,8 @@
  * call without `_segments` returns for the stream of the same segments. Each line of standard input ends with the bytes
  * of a stream, in hexadecimal. The streams are these bytes, and copies of them with some bytes changed, by a fixed
  * seed. Each segment is copied alone to an odd address. The last segment ends at the end of a page, before a page that
- * can't be accessed. Then the test passes segments that no stream has. Finally it makes the calls that need no memory
- * while every allocation fails. */
+ * can't be accessed. Then the test makes the calls on segments that no stream has. Finally every allocation fails, and
+ * the test makes the calls that need no memory. */
 #define TEST "segments"
 #include "refusing.h"
 #include "wanted.h"
@@ -99,7 +99,7 @@ static void held(const uint8_t *frame, size_t size, const capn_limits *limits) {
     for (size_t i = 0; i < made; i++) free(blocks[i]);
 }
 
-/* Passes segments that no stream has, and as many segments as only a long stream has. */
+/* Makes the calls on segments that no stream has, and on so many segments that their stream would be long. */
 static void borders(void) {
     static const uint8_t words[8 * 1024];
     static capn_segment segments[MOST + 1];

@@ -1,7 +1,7 @@
 /* Tests capn_show. With the argument `answers`, each line of standard input is a test case with a run of `capn show`.
  * The program prints the library's output for the bytes of the run, in the format of the expected outputs. With the
  * argument `agrees`, it compares capn_show with capn_check on the bytes at the end of each line, in each form (stream,
- * packed and bare) and style. It also fails each allocation of capn_show once. */
+ * packed and bare) and style. It also makes each allocation of capn_show fail once. */
 #define TEST "show"
 #include "refusing.h"
 #include "wanted.h"

@@ -1,4 +1,4 @@
-/* Measures the stack that each call needs. It fills the stacks of threads with a pattern, and looks how much of the
+/* Measures the stack that each call needs. It fills the stacks of threads with a pattern, and finds how much of the
  * pattern is left. The messages are chains of objects as deep as the limit allows. They have one segment, two segments,
  * or more segments than a call reads without an allocation. The program fails if a call needs more than a bound. */
 

@@ -4,7 +4,7 @@
  * `?` if the bytes aren't one message. With the argument `agrees`, it makes both calls on the bytes at the end of each
  * line, in each form (stream, packed and bare) and with some limits. The array for the path has exactly the length of
  * the path, is longer, is shorter, or is missing. The results are compared with capn_check, capn_survey and
- * capn_canonical. The test also fails each allocation once. */
+ * capn_canonical. The test also makes each allocation fail once. */
 #define TEST "ways"
 #include "refusing.h"
 #include "wanted.h"

@@ -698,8 +698,8 @@ def run_filter(data, canonical=False, **options):
 
 
 def apart(first, other):
-    """Returns the first line that differs between the dumps of two canonical messages, from each of the dumps. Each
-    line begins with its path."""
+    """Compares the dumps of two canonical messages line by line. At the first difference, returns the line of each
+    dump. Each line begins with its path."""
     texts = [Marked([it], 0, False, True).part(()).splitlines() + ["\tend"] for it in (first, other)]
     return next(both for both in zip(*texts) if both[0] != both[1])
 

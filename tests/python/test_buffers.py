@@ -171,7 +171,7 @@ def long():
 
 
 def shown(data, form, limits):
-    """Calls `capn.show` such that it reads the bytes in place. Without the patch, `capn.show` copies the bytes."""
+    """Calls `capn.show`. A patch makes it read the bytes in place. Without this patch, `capn.show` copies the bytes."""
     with unittest.mock.patch.object(capn._show, "_taken", lambda data, form, limits, _: capn._calls._taken(
             data, form, limits, True)):
         return capn.show(data, form, limits)

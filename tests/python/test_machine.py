@@ -80,7 +80,7 @@ class Threads(unittest.TestCase):
         return caught.exception._look
 
     def runs_beside(self, call):
-        """Makes a call in another thread. Returns whether this thread runs before the call ends."""
+        """Makes a call in a new thread. Returns whether the thread of the test runs before the call ends."""
         started, ended = threading.Event(), []
 
         def run():

@@ -1,5 +1,5 @@
-"""Tests that messages are read in place, streams in chunks, and summaries correctly. Compares the results with the
-Python model in tests/program."""
+"""Tests messages that are read in place, streams that are read in chunks, and summaries of messages. Compares the
+results with the Python model in tests/program."""
 import io
 import random
 import struct

@@ -1,5 +1,5 @@
-"""Tests the comparison of two messages. The messages have the same value in different layouts, or different values, or
-one of them is rejected."""
+"""Tests the comparison of two messages. Some pairs have the same value in different layouts. Some have different
+values. In some pairs, a message is rejected."""
 import copy
 import mmap
 import pickle

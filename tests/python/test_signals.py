@@ -32,7 +32,7 @@ class Interrupted(Exception):
 
 
 def after(count):
-    """Sets a profile function that raises one exception, in the call with the number `count` that the package makes."""
+    """Sets a profile function that counts the calls of the package. It raises one exception, in call number `count`."""
 
     def watch(frame, event, _):
         nonlocal count

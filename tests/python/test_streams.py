@@ -319,7 +319,7 @@ class Wound(unittest.TestCase):
                     at = source.randrange(len(parts))
                     file.seek(places[at])
                 elif source.random() < 0.1:
-                    # The test itself reads a message from the file, and not the reader.
+                    # Here the test itself reads a message from the file. The reader doesn't read this message.
                     self.assertEqual(file.read(len(sent[at])), sent[at])
                     at += 1
                     continue
@@ -797,8 +797,8 @@ class Splitters(unittest.TestCase):
         refusals = []
 
         def once(call):
-            """Returns a function that makes the same call, except that the first call that would succeed returns the
-            status for out of memory."""
+            """Returns a function that makes the given call. When the call succeeds for the first time, the function
+            returns the status for out of memory instead."""
             def little(*words):
                 status = call(*words)
                 if status == 0 and not refusals:
@@ -811,8 +811,9 @@ class Splitters(unittest.TestCase):
             return little
 
         def once_of_one(call):
-            """Returns a function that makes the same call, which looks at one message and returns a number of bytes.
-            The first call that would succeed returns 0 and sets the status for out of memory."""
+            """Returns a function that makes the given call. This call looks at one message, and returns a number of
+            bytes. When the call succeeds for the first time, the function returns 0 instead, and sets the status for
+            out of memory."""
             def little(text, size, one):
                 taken = call(text, size, one)
                 if taken and not refusals:
