@@ -18,12 +18,12 @@
  *   - for a list of pointers, the length, and the numbers of the kinds of the first twenty pointers
  *   - for a list of structs, the length, and the numbers of the first twenty structs */
 
-/* The numbers of a struct in the lines of `fields lines` are the following, in this order:
- *   - its fields of 1 bit at the multiples of 5 below 256
- *   - for each width of 8, 16, 32 and 64 bits, the unsigned fields at the multiples of the width below 256
- *   - for each of these widths, the signed fields at the same places
- *   - the number of its pointers, and the numbers of the kinds of its first four pointers
- * Field i of a width has the default i + 1, or -(i + 1) if it is signed, in as many bits as the field has. */
+/* The command `fields lines` prints these numbers for a struct, in this order:
+ *   - the fields of 1 bit whose offset in bits is a multiple of 5 below 256
+ *   - for each width of 8, 16, 32 and 64 bits, the unsigned fields whose offset is a multiple of the width below 256
+ *   - for each width of 8, 16, 32 and 64 bits, the signed fields at the same offsets
+ *   - the number of pointers of the struct, and a number for the kind of each of its first four pointers
+ * The default of field i of a width is i + 1, or -(i + 1) for a signed field, truncated to the width. */
 #include "capn_fields.h"
 #include <inttypes.h>
 #include <stdio.h>

@@ -226,8 +226,8 @@ class Signals(unittest.TestCase):
         signal.signal(signal.SIGUSR1, self.before)
 
     def read(self, found):
-        """Reads a stream to its end, and returns the messages. If the reader had counted a message when an exception
-        came, takes this message from `last`."""
+        """Reads a stream to its end, and returns the messages. An exception can come after the reader has counted a
+        message. This function then takes that message from `last`."""
         got, raised, number = [], 0, 0
         while True:
             try:
