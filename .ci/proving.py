@@ -15,7 +15,7 @@ BUILD = os.path.join(TOP, "build")
 # The crate of the library for C, and the log of its build. `rt ci` proves the crate, but doesn't build its archive.
 LIBRARY = "capn_c"
 LIBRARY_LOG = os.path.join(BUILD, "library.log")
-# Crates that `make test` runs without a proof. Only `make test-all` proves these crates and the crates that have tests.
+# Crates without tests that `make test` runs, but doesn't prove. Only `make test-all` proves them.
 UNPROVED = ("bench",)
 
 
