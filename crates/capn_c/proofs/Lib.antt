@@ -5,7 +5,9 @@ pub mod DecidedAnswers
 pub mod DecidedHeld
 pub mod DecidedPacked
 pub mod DecidedPath
+pub mod DecidedPieces
 pub mod DecidedRoom
+pub mod DecidedScratch
 pub mod DecidedText
 pub mod Delivered
 pub mod Digests

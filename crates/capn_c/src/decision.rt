@@ -3,9 +3,11 @@
 //! Each function makes one call twice with the same arguments, and returns both statuses. The proof uses only the
 //! contract of the call. So the contract allows one status and one report for each input, and also status 8.
 
+ghost use Rattle.std.specs.Prelude.{◌≡◌};
 ghost use Rattle.capn_c.specs.Decision.{Agree};
 
 use crate::canonical_call::capn_canonical;
+use crate::canonical_scratch_call::capn_canonical_with_scratch;
 use crate::canonical_segments_call::capn_canonical_segments;
 use crate::check_call::capn_check;
 use crate::check_segments_call::capn_check_segments;
@@ -16,14 +18,12 @@ use crate::hash_call::capn_hash;
 use crate::hash_segments_call::capn_hash_segments;
 use crate::index_call::capn_index;
 use crate::is_canonical_call::capn_is_canonical;
-use crate::pack_calls::{capn_pack, capn_unpack};
-use crate::refusal_way_call::capn_refusal_way;
 use crate::same_call::capn_same;
 use crate::show_call::capn_show;
 use crate::survey_call::capn_survey;
 use crate::survey_segments_call::capn_survey_segments;
 use capn_abi::{CapnLimits, CapnReport};
-use capn_path::laws::paths;
+use capn_scratch::laws::decision;
 use std::alloc::Global;
 
 /// States that the arguments of `capn_check` decide the status and the report, unless a status is 8.
@@ -244,55 +244,23 @@ pub fn same(
     (one, other)
 }
 
-/// States that the bytes of `capn_pack` and the length of the buffer decide the status and the report, unless a status
-/// is 8.
-pub fn pack(
-    alloc: Global,
-    bytes: &[u8],
-    out: &mut [u8],
-    first: &mut CapnReport,
-    second: &mut CapnReport,
-) -> (u32, u32)
-    ensures { Agree result.0 first.new result.1 second.new }
-{
-    let one = capn_pack(alloc, bytes, out, first);
-    let other = capn_pack(alloc, bytes, out, second);
-    (one, other)
-}
-
-/// States that the arguments of `capn_unpack` and the length of the buffer decide the status and the report, unless a
-/// status is 8.
-pub fn unpack(
-    alloc: Global,
-    bytes: &[u8],
-    max_words: u32,
-    out: &mut [u8],
-    first: &mut CapnReport,
-    second: &mut CapnReport,
-) -> (u32, u32)
-    ensures { Agree result.0 first.new result.1 second.new }
-{
-    let one = capn_unpack(alloc, bytes, max_words, out, first);
-    let other = capn_unpack(alloc, bytes, max_words, out, second);
-    (one, other)
-}
-
-/// States that the arguments of `capn_refusal_way` decide the status and the report, unless a status is 8. The report
-/// has the length of the path, also if the path does not fit into `way`.
-pub fn refusal_way(
-    alloc: Global,
+/// States that the arguments of `capn_canonical_with_scratch`, the number of words of the scratch and the length of the
+/// buffer decide the status and the report. The contents of the scratch do not matter, and no status is left out.
+pub fn canonical_with_scratch(
     form: u32,
     bytes: &[u8],
     limits: &CapnLimits,
-    way: &mut [u32],
+    scratch: &mut [[u8; 8]],
+    out: &mut [u8],
     first: &mut CapnReport,
     second: &mut CapnReport,
 ) -> (u32, u32)
-    ensures { Agree result.0 first.new result.1 second.new }
+    ensures status { result.0 ≡ result.1 }
+    ensures report { first.new ≡ second.new }
 {
-    // The proof of the contract needs the law that one path at most leads to a refused slot.
-    paths();
-    let one = capn_refusal_way(alloc, form, bytes, limits, way, first);
-    let other = capn_refusal_way(alloc, form, bytes, limits, way, second);
+    // The proof of the contract needs the law that the clauses of `canonical_into_form` allow one result.
+    decision();
+    let one = capn_canonical_with_scratch(form, bytes, limits, scratch, out, first);
+    let other = capn_canonical_with_scratch(form, bytes, limits, scratch, out, second);
     (one, other)
 }

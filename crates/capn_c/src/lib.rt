@@ -37,6 +37,8 @@ mod message_figures;
 mod message_index;
 mod message_text;
 mod pack_calls;
+pub mod packing_decision;
+pub mod path_decision;
 mod path_numbers;
 mod refusal_way_call;
 mod same_call;

@@ -1,7 +1,7 @@
 -- The clauses of `capn_pack` allow one status and one report for a length of the buffer, and status 8.
 use Rattle.std.proofs.Common.{length, refl, ◌∙◌}
 use Rattle.capn_c.proofs.DecidedPacked.{pack_clauses, packs_agree}
-use Rattle.capn_c.proofs.decision.pack.Goals as goal
+use Rattle.capn_c.proofs.packing_decision.pack.Goals as goal
 
 pub returns : goal.returns
 returns c =

@@ -1,7 +1,7 @@
 -- The clauses of `capn_refusal_way` allow one status and one report, and status 8.
 use Rattle.capn_abi.specs.Calls.{form_named, bounds_of}
 use Rattle.capn_c.proofs.DecidedPath.{way_clauses, ways_agree}
-use Rattle.capn_c.proofs.decision.refusal_way.Goals as goal
+use Rattle.capn_c.proofs.path_decision.refusal_way.Goals as goal
 
 pub returns : goal.returns
 returns c =
