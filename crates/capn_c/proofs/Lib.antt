@@ -3,6 +3,7 @@ pub mod Counted
 pub mod Decided
 pub mod DecidedAnswers
 pub mod DecidedHeld
+pub mod DecidedMismatch
 pub mod DecidedPacked
 pub mod DecidedPath
 pub mod DecidedPieces

@@ -13,3 +13,8 @@ mod Ready
 mod Leaving
 mod Mismatching
 mod InCanonicalForm
+mod Preorder
+mod OwnWords
+mod OneOwner
+mod OneFinding
+mod OneMismatch

@@ -4,3 +4,4 @@ pub mod Owner
 pub mod Capability
 pub mod Mismatches
 pub mod CanonicalLines
+pub mod Laws

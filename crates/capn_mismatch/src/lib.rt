@@ -23,6 +23,7 @@ mod capability;
 mod descent;
 mod difference;
 mod finding;
+pub mod laws;
 mod likely;
 mod message_mismatch;
 mod only_segment;
