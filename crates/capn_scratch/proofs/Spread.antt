@@ -4,11 +4,20 @@ use Rattle.std.proofs.Common.{◌≤◌, inl, inr, List, [], ◌∷◌, ◌++◌
 use Rattle.std.proofs.Common.{get_or, refl, sym, ap, subst, ◌∙◌, arith, append_assoc}
 use Rattle.std.proofs.Math.Seq.{take-suc}
 use Rattle.std.specs.Prelude.{set}
+use Rattle.std.proofs.lemmas.Bool.{cases_eq}
+use Rattle.std.proofs.lemmas.Nat.{zero_from_ones}
 use Rattle.std.proofs.lemmas.List.{take_more_set, length-take-le}
 use Rattle.std.proofs.Common.{pow-suc}
 use Rattle.std.specs.Prelude.{count_ones}
 use Rattle.capn_pack.specs.Packed.{named_bytes, IsNamedBy}
 use Rattle.capn_pack.proofs.shared.SpreadLemmas.{named_none, named_one, no_ones, ones_half, parity}
+
+-- A tag that is not 0 names at least one byte.
+pub some_ones : (tag : ℕ) → 0 < tag → 0 < count_ones tag
+some_ones tag some = elim (cases_eq (count_ones tag) 0) [
+  | inl none ↦ absurd (omega (arith, zero_from_ones tag none))
+  | inr other ↦ omega (arith, other)
+]
 
 -- ---- one bit more
 

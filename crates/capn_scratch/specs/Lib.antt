@@ -1,5 +1,6 @@
 pub mod inner
 pub mod Needs
+pub mod Work
 pub mod FormRefusal
 pub mod Theorem
 pub mod Display

@@ -2,3 +2,4 @@
 pub mod Ends
 pub mod Groups
 pub mod Outcomes
+pub mod WalkWork

@@ -1,27 +1,39 @@
 //! The ends of the segments of a frame, as words of 8 bytes.
 
-ghost use Rattle.std.specs.Prelude.{◌≡◌, ◌*◌, ◌^◌, ◌<◌, ◌≤◌, ◌∷◌, ◌++◌, [], length, take, sum, slice_index};
+ghost use Rattle.std.specs.Prelude.{◌≡◌, ◌+◌, ◌*◌, ◌^◌, ◌<◌, ◌≤◌, ◌∷◌, ◌++◌, [], length, take, sum, slice_index};
 ghost use Rattle.capn_words.specs.Message.{most_segments};
 ghost use Rattle.capn_stream.specs.Cuts.{ends_from};
 ghost use Rattle.capn_stream.specs.FrameRefusal.{entries};
 ghost use Rattle.capn_scratch.specs.inner.Ends.{numbers};
 
-use capn_stream::table::entry_at;
+use crate::counted_bytes::CountedBytes;
+use crate::counted_scratch::CountedScratch;
+use crate::steps::Steps;
+use std::sync::ledger::Ledger;
 
 /// Writes the ends of the first `count` segments to the beginning of `ends`, one in each word. `sizes` are the entries
-/// of the segment table. An end is a number of words from the start of the message.
-pub(crate) fn put_ends(sizes: &[u8], count: usize, ends: &mut [[u8; 8]])
+/// of the segment table. An end is a number of words from the start of the message. Counts in `steps` as three steps for
+/// each end.
+#[inline(always)]
+pub(crate) fn put_ends<L: Ledger>(
+    sizes: &CountedBytes<'_, L>,
+    count: usize,
+    ends: &mut CountedScratch<'_, L>,
+    steps: &mut Steps<L>,
+)
     requires few { count ≤ most_segments }
     requires inside { 4 * count ≤ length sizes.now }
     requires small { sum (entries count sizes.now) < 2 ^ 32 }
     requires room { count ≤ length ends.old }
     ensures ends { numbers (take count ends.new) ≡ ends_from 0 (entries count sizes.now) }
     ensures long { length ends.new ≡ length ends.old }
+    ensures steps { steps.new ≡ steps.old + 3 * count }
 {
     let mut end: u64 = 0;
     for index in 0..count {
-        end += entry_at(sizes, index) as u64;
-        ends[index] = end.to_le_bytes();
+        steps.tick();
+        end += sizes.entry(index, steps) as u64;
+        ends.put(index, end, steps);
     }
 }
 
@@ -59,12 +71,4 @@ pub(crate) fn end_of(ends: &[[u8; 8]], words: u32, segment: usize) -> u32
     } else {
         end_at(ends, segment)
     }
-}
-
-/// Returns the first `count` words of `ends`.
-pub(crate) fn kept(ends: &[[u8; 8]], count: usize) -> &[[u8; 8]]
-    requires { count ≤ length ends.now }
-    ensures { result.now ≡ take count ends.now }
-{
-    &ends[..count]
 }

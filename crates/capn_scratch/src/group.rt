@@ -1,10 +1,15 @@
 //! One group of a packed text: the size of the group, and the words that the group unpacks to.
 
-ghost use Rattle.std.specs.Prelude.{◌≡◌, ◌+◌, ◌*◌, ◌<◌, ◌≤◌, ◌++◌, ◌/◌, ◌%◌, length, take, replicate, slice_index};
+ghost use Rattle.std.specs.Prelude.{◌≡◌, ◌+◌, ◌*◌, ◌<◌, ◌≤◌, ◌++◌, ◌/◌, ◌%◌, length, take, slice_index};
 ghost use Rattle.std.specs.Prelude.{count_ones};
 ghost use Rattle.capn_pack.specs.Packed.{named_bytes, IsNamedBy};
 ghost use Rattle.capn_pack.specs.UnpackRefusal.{len_at, words_at};
 ghost use Rattle.capn_scratch.specs.inner.Groups.{SizeGives, Takes};
+
+use crate::counted_bytes::CountedBytes;
+use crate::counted_scratch::CountedText;
+use crate::steps::Steps;
+use std::sync::ledger::Ledger;
 
 /// The reason why a group is not read.
 #[derive(Clone, Copy)]
@@ -24,16 +29,23 @@ pub(crate) struct Size {
     pub words: usize,
 }
 
-/// Returns the size of the group of zero words, with the tag 0, at the front of `rest`.
-fn size_of_zeros(rest: &[u8], room: usize) -> Result<Size, Stop>
+/// Returns the size of the group of zero words, with the tag 0, at the front of `rest`. Counts at most one step.
+#[inline(always)]
+fn size_of_zeros<L: Ledger>(
+    rest: &CountedBytes<'_, L>,
+    room: usize,
+    steps: &mut Steps<L>,
+) -> Result<Size, Stop>
     requires some { 0 < length rest.now }
     requires tag { slice_index rest.now 0 ≡ 0 }
-    ensures { SizeGives rest.now room result }
+    ensures size { SizeGives rest.now room result }
+    ensures steps { steps.new ≤ steps.old + 1 }
 {
+    rest.bounds();
     if rest.len() < 2 {
         return Err(Stop::Cut);
     }
-    let words = 1 + rest[1] as usize;
+    let words = 1 + rest.byte(1, steps) as usize;
     if words > room {
         return Err(Stop::TooLong);
     }
@@ -41,13 +53,16 @@ fn size_of_zeros(rest: &[u8], room: usize) -> Result<Size, Stop>
 }
 
 /// Returns the size of the group of one word at the front of `rest`. The tag of the group is neither 0 nor 255.
-fn size_of_named(rest: &[u8], room: usize) -> Result<Size, Stop>
+#[tactic(auto, using(crate::proofs::Spread::some_ones))]
+#[inline(always)]
+fn size_of_named<L: Ledger>(rest: &CountedBytes<'_, L>, tag: u8, room: usize) -> Result<Size, Stop>
     requires some { 0 < length rest.now }
+    requires tag { tag ≡ slice_index rest.now 0 }
     requires above { 0 < slice_index rest.now 0 }
     requires below { slice_index rest.now 0 < 255 }
     ensures { SizeGives rest.now room result }
 {
-    let bytes = 1 + rest[0].count_ones() as usize;
+    let bytes = 1 + tag.count_ones() as usize;
     if rest.len() < bytes {
         return Err(Stop::Cut);
     }
@@ -57,16 +72,22 @@ fn size_of_named(rest: &[u8], room: usize) -> Result<Size, Stop>
     Ok(Size { bytes, words: 1 })
 }
 
-/// Returns the size of the group of raw words, with the tag 255, at the front of `rest`.
-fn size_of_raw(rest: &[u8], room: usize) -> Result<Size, Stop>
+/// Returns the size of the group of raw words, with the tag 255, at the front of `rest`. Counts at most one step.
+#[inline(always)]
+fn size_of_raw<L: Ledger>(
+    rest: &CountedBytes<'_, L>,
+    room: usize,
+    steps: &mut Steps<L>,
+) -> Result<Size, Stop>
     requires some { 0 < length rest.now }
     requires tag { slice_index rest.now 0 ≡ 255 }
-    ensures { SizeGives rest.now room result }
+    ensures size { SizeGives rest.now room result }
+    ensures steps { steps.new ≤ steps.old + 1 }
 {
     if rest.len() < 10 {
         return Err(Stop::Cut);
     }
-    let more = rest[9] as usize;
+    let more = rest.byte(9, steps) as usize;
     if 1 + more > room {
         return Err(Stop::TooLong);
     }
@@ -81,56 +102,62 @@ fn size_of_raw(rest: &[u8], room: usize) -> Result<Size, Stop>
 }
 
 /// Returns the size of the group at the front of `rest`, if the group is complete and unpacks to at most `room` words.
-pub(crate) fn size_of(rest: &[u8], room: usize) -> Result<Size, Stop>
+/// Counts at most two steps.
+#[inline(always)]
+pub(crate) fn size_of<L: Ledger>(
+    rest: &CountedBytes<'_, L>,
+    room: usize,
+    steps: &mut Steps<L>,
+) -> Result<Size, Stop>
     requires { 0 < length rest.now }
-    ensures { SizeGives rest.now room result }
+    ensures size { SizeGives rest.now room result }
+    ensures steps { steps.new ≤ steps.old + 2 }
 {
-    match rest[0] {
-        0 => size_of_zeros(rest, room),
-        255 => size_of_raw(rest, room),
-        _ => size_of_named(rest, room),
+    let tag = rest.byte(0, steps);
+    match tag {
+        0 => size_of_zeros(rest, room, steps),
+        255 => size_of_raw(rest, room, steps),
+        _ => size_of_named(rest, tag, room),
     }
 }
 
-/// Copies `bytes` to `out`, from offset `at` on.
-fn store(out: &mut [u8], at: usize, bytes: &[u8])
-    requires { at + length bytes.now ≤ length out.old }
-    ensures { take (at + length bytes.now) out.new ≡ take at out.old ++ bytes.now }
-{
-    let end = at + bytes.len();
-    out[at..end].copy_from_slice(bytes);
-}
-
-/// Writes `count` zero bytes to `out`, from offset `at` on.
-fn store_zeros(out: &mut [u8], at: usize, count: usize)
-    requires { at + count ≤ length out.old }
-    ensures { take (at + count) out.new ≡ take at out.old ++ replicate count 0 }
-{
-    let end = at + count;
-    out[at..end].fill(0);
-}
-
-/// Returns the next byte of an unpacked word: byte `next` of `bytes` if the lowest bit of `left` is set, else 0.
-fn byte_of(left: u8, bytes: &[u8], next: usize) -> u8
+/// Returns the next byte of an unpacked word: byte `next` of `bytes` if the lowest bit of `left` is set, else 0. Counts
+/// one step for a byte that is read.
+#[inline(always)]
+fn byte_of<L: Ledger>(
+    left: u8,
+    bytes: &CountedBytes<'_, L>,
+    next: usize,
+    steps: &mut Steps<L>,
+) -> u8
     requires { next + count_ones left ≤ length bytes.now }
     ensures none { left % 2 ≡ 0 → result ≡ 0 }
     ensures named { left % 2 ≡ 1 → result ≡ slice_index bytes.now next }
+    ensures steps { steps.new ≡ steps.old + left % 2 }
 {
-    if left % 2 == 0 { 0 } else { bytes[next] }
+    if left % 2 == 0 {
+        0
+    } else {
+        bytes.byte(next, steps)
+    }
 }
 
 /// Returns the word that `tag` and `bytes` unpack to. Each set bit of `tag` names a byte of the word. The named
-/// bytes are the first of `bytes`, in order. The other bytes of the word are zero.
-fn spread(tag: u8, bytes: &[u8]) -> [u8; 8]
+/// bytes are the first of `bytes`, in order. The other bytes of the word are zero. Counts one step for each of the 8
+/// bytes, and one more for each that is read.
+#[inline(always)]
+fn spread<L: Ledger>(tag: u8, bytes: &CountedBytes<'_, L>, steps: &mut Steps<L>) -> [u8; 8]
     requires { count_ones tag ≤ length bytes.now }
     ensures named { IsNamedBy tag result }
     ensures bytes { named_bytes tag result ≡ take (count_ones tag) bytes.now }
+    ensures steps { steps.new ≤ steps.old + 8 + count_ones tag }
 {
     let mut word = [0; 8];
     let mut left = tag;
     let mut next = 0;
     for index in 0..8 {
-        word[index] = byte_of(left, bytes, next);
+        steps.tick();
+        word[index] = byte_of(left, bytes, next, steps);
         next += (left % 2) as usize;
         left /= 2;
     }
@@ -138,58 +165,101 @@ fn spread(tag: u8, bytes: &[u8]) -> [u8; 8]
 }
 
 /// Unpacks the group of zero words at the front of `rest`, of the given `size`, to `out` from offset `fill` on.
-fn put_zeros(rest: &[u8], size: Size, out: &mut [u8], fill: usize)
+#[inline(always)]
+fn put_zeros<L: Ledger>(
+    rest: &CountedBytes<'_, L>,
+    size: Size,
+    out: &mut CountedText<'_, L>,
+    fill: usize,
+    steps: &mut Steps<L>,
+)
     requires inside { 2 ≤ length rest.now }
     requires tag { slice_index rest.now 0 ≡ 0 }
     requires bytes { size.bytes ≡ 2 }
     requires words { size.words ≡ 1 + slice_index rest.now 1 }
     requires room { fill + 8 * size.words ≤ length out.old }
-    ensures { Takes rest.now size.bytes size.words (take fill out.old) (take (fill + 8 * size.words) out.new) }
+    ensures takes { Takes rest.now size.bytes size.words (take fill out.old) (take (fill + 8 * size.words) out.new) }
+    ensures long { length out.new ≡ length out.old }
+    ensures steps { steps.new ≤ steps.old + size.words }
 {
-    store_zeros(out, fill, 8 * size.words);
+    rest.bounds();
+    out.store_zeros(fill, size.words, steps);
 }
 
 /// Unpacks the group of one word at the front of `rest` to `out`, from offset `fill` on. The tag of the group is
 /// neither 0 nor 255.
-fn put_named(rest: &[u8], size: Size, out: &mut [u8], fill: usize)
+#[inline(always)]
+fn put_named<L: Ledger>(
+    rest: &CountedBytes<'_, L>,
+    tag: u8,
+    size: Size,
+    out: &mut CountedText<'_, L>,
+    fill: usize,
+    steps: &mut Steps<L>,
+)
     requires some { 0 < length rest.now }
-    requires above { 0 < slice_index rest.now 0 }
-    requires below { slice_index rest.now 0 < 255 }
-    requires bytes { size.bytes ≡ 1 + count_ones (slice_index rest.now 0) }
+    requires tag { tag ≡ slice_index rest.now 0 }
+    requires above { 0 < tag }
+    requires below { tag < 255 }
+    requires bytes { size.bytes ≡ 1 + count_ones tag }
     requires inside { size.bytes ≤ length rest.now }
     requires words { size.words ≡ 1 }
     requires room { fill + 8 * size.words ≤ length out.old }
-    ensures { Takes rest.now size.bytes size.words (take fill out.old) (take (fill + 8 * size.words) out.new) }
+    ensures takes { Takes rest.now size.bytes size.words (take fill out.old) (take (fill + 8 * size.words) out.new) }
+    ensures long { length out.new ≡ length out.old }
+    ensures steps { steps.new ≤ steps.old + size.bytes + 8 }
 {
-    let word = spread(rest[0], &rest[1..]);
-    store(out, fill, &word);
+    let word = spread(tag, &rest.rest(1), steps);
+    out.store(fill, &word, steps);
 }
 
 /// Unpacks the group of raw words at the front of `rest`, of the given `size`, to `out` from offset `fill` on.
-fn put_raw(rest: &[u8], size: Size, out: &mut [u8], fill: usize)
+#[inline(always)]
+fn put_raw<L: Ledger>(
+    rest: &CountedBytes<'_, L>,
+    size: Size,
+    out: &mut CountedText<'_, L>,
+    fill: usize,
+    steps: &mut Steps<L>,
+)
     requires tag { slice_index rest.now 0 ≡ 255 }
     requires bytes { size.bytes ≡ 10 + 8 * slice_index rest.now 9 }
     requires inside { size.bytes ≤ length rest.now }
     requires words { size.words ≡ 1 + slice_index rest.now 9 }
     requires room { fill + 8 * size.words ≤ length out.old }
-    ensures { Takes rest.now size.bytes size.words (take fill out.old) (take (fill + 8 * size.words) out.new) }
+    ensures takes { Takes rest.now size.bytes size.words (take fill out.old) (take (fill + 8 * size.words) out.new) }
+    ensures long { length out.new ≡ length out.old }
+    ensures steps { steps.new ≤ steps.old + size.words }
 {
-    store(out, fill, &rest[1..9]);
-    store(out, fill + 8, &rest[10..size.bytes]);
+    rest.bounds();
+    let _room = out.len();
+    rest.part(1, 9).copy_to(out, fill, steps);
+    rest.part(10, size.bytes).copy_to(out, fill + 8, steps);
 }
 
-/// Unpacks the group at the front of `rest`, of the given `size`, to `out` from offset `fill` on.
-pub(crate) fn put_group(rest: &[u8], size: Size, out: &mut [u8], fill: usize)
+/// Unpacks the group at the front of `rest`, of the given `size`, to `out` from offset `fill` on. Counts at most one
+/// step for each byte, and nine for each word.
+#[inline(always)]
+pub(crate) fn put_group<L: Ledger>(
+    rest: &CountedBytes<'_, L>,
+    size: Size,
+    out: &mut CountedText<'_, L>,
+    fill: usize,
+    steps: &mut Steps<L>,
+)
     requires some { 0 < length rest.now }
     requires bytes { size.bytes ≡ len_at rest.now }
     requires words { size.words ≡ words_at rest.now }
     requires inside { size.bytes ≤ length rest.now }
     requires room { fill + 8 * size.words ≤ length out.old }
-    ensures { Takes rest.now size.bytes size.words (take fill out.old) (take (fill + 8 * size.words) out.new) }
+    ensures takes { Takes rest.now size.bytes size.words (take fill out.old) (take (fill + 8 * size.words) out.new) }
+    ensures long { length out.new ≡ length out.old }
+    ensures steps { steps.new ≤ steps.old + size.bytes + 9 * size.words }
 {
-    match rest[0] {
-        0 => put_zeros(rest, size, out, fill),
-        255 => put_raw(rest, size, out, fill),
-        _ => put_named(rest, size, out, fill),
+    let tag = rest.byte(0, steps);
+    match tag {
+        0 => put_zeros(rest, size, out, fill, steps),
+        255 => put_raw(rest, size, out, fill, steps),
+        _ => put_named(rest, tag, size, out, fill, steps),
     }
 }

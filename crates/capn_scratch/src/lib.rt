@@ -22,20 +22,35 @@
 //! `specs/FormRefusal.antt` and `specs/Needs.antt`. [`laws`] states that the clauses allow only one result. For each
 //! form it also states a number of words that is enough for every input.
 //!
+//! [`canonical_into_form_of`] is the same call on [`AskedBytes`], bytes on which one task can be run. Its clause `work`
+//! bounds the whole way from the bytes to the canonical bytes: the unpacking, the segment table, the walk and the layout.
+//! The task gets the bytes as [`CountedBytes`] and the scratch as [`CountedScratch`], whose calls count in [`Steps`]. A
+//! slice allows any number of steps.
+//!
 //! No call allocates memory or takes an allocator.
 #![tactic(auto)]
 
+mod asked_bytes;
 mod canonical_form;
+mod counted_bytes;
+mod counted_scratch;
 mod ends;
 mod framed;
 mod group;
 pub mod laws;
+mod prepaid;
 mod refusal;
 mod scratch_segments;
+mod steps;
+mod table;
 mod unpacked;
 
-pub use canonical_form::canonical_into_form;
+pub use asked_bytes::{AskedBytes, BytesTask};
+pub use canonical_form::{canonical_into_form, canonical_into_form_of};
+pub use counted_bytes::CountedBytes;
+pub use counted_scratch::CountedScratch;
 pub use refusal::FormRefusal;
+pub use steps::Steps;
 
 // The types that the signatures of this crate name.
 pub use capn_canon::{BareFault, CanonicalLength, Form, FrameFault, Limits, Stopped, UnpackFault};

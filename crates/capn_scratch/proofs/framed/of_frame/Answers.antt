@@ -3,8 +3,8 @@ use Rattle.capn_stream.specs.FrameRefusal.{IsFrameRefused}
 use Rattle.capn_stream.specs.declared.fault.FrameFault.{FrameFault}
 use Rattle.capn_scratch.proofs.framed.of_frame.Goals as goal
 
-pub returns-in-Err : goal.returns-in-Err
-returns-in-Err c =
+pub returns-in-Err-clause-told : goal.returns-in-Err-clause-told
+returns-in-Err-clause-told g c =
     let refused = subst (λ (n : ℕ). IsFrameRefused c.args.bytes.now n c.in-Err.fault) c.message_words.ensures.value
     c.in-Err.ensures.refused in
     record {

@@ -7,7 +7,7 @@ use Rattle.capn_scratch.specs.inner.Ends.{announced_ends}
 use Rattle.capn_scratch.proofs.framed.of_whole.Goals as goal
 
 pub of_words-requires-clause-small : goal.of_words-requires-clause-small
-of_words-requires-clause-small c =
+of_words-requires-clause-small g c =
     let bs = c.args.bytes.now in
     let count : c.args.head.segments - 1 ≡ entry_number bs = omega (arith, c.requires.segments) in
     omega (
@@ -18,21 +18,21 @@ of_words-requires-clause-small c =
     )
 
 pub of_words-requires-clause-ends : goal.of_words-requires-clause-ends
-of_words-requires-clause-ends c =
+of_words-requires-clause-ends g c =
     let bs = c.args.bytes.now in
     read_ends bs c.args.limits.message_words c.args.head.segments c.args.head.words c.head_of-start.result
     (announced_ends bs) c.in-Ok.words (omega arith)
-    (λ i. omega (arith, c.type_inv.bytes i)) c.requires.whole c.requires.segments c.requires.words
+    c.bounds.ensures c.requires.whole c.requires.segments c.requires.words
     c.head_of-start.ensures
     (ap (λ (ns : List ℕ). ends_from 0 ns) (sym (sizes_read bs c.args.head.segments c.requires.segments)))
-    c.in-Ok.ensures.exact
+    (rw c.part.ensures at c.in-Ok.ensures)
 
 pub of_words-requires-clause-first : goal.of_words-requires-clause-first
-of_words-requires-clause-first c =
+of_words-requires-clause-first g c =
     let bs = c.args.bytes.now in
     read_stands bs c.args.limits.message_words c.args.head.segments c.args.head.words c.head_of-start.result
     (announced_ends bs) c.in-Ok.words (omega arith)
-    (λ i. omega (arith, c.type_inv.bytes i)) c.requires.whole c.requires.segments c.requires.words
+    c.bounds.ensures c.requires.whole c.requires.segments c.requires.words
     c.head_of-start.ensures
     (ap (λ (ns : List ℕ). ends_from 0 ns) (sym (sizes_read bs c.args.head.segments c.requires.segments)))
-    c.in-Ok.ensures.exact
+    (rw c.part.ensures at c.in-Ok.ensures)

@@ -9,5 +9,5 @@ returns g c =
 pub returns-in_err-written : goal.returns-in_err-written
 returns-in_err-written g c =
     let w = c.in_err-written.ensures in
-    told_refused (g.S.Space.message c.args.space.now) c.args.limits c.args.out.now _ c.from_residual.result _
+    told_refused c.args.space.0 c.args.limits c.args.out.now _ c.from_residual.result _
     c.from_residual.ensures.1 w.refused w.unchanged w.bounded

@@ -6,7 +6,7 @@ use Rattle.capn_scratch.proofs.Spread.{spread_all, spread_bytes, spread_named}
 use Rattle.capn_scratch.proofs.group.spread.Goals as goal
 
 pub loop-index-preserved : goal.loop-index-preserved
-loop-index-preserved c =
+loop-index-preserved g c =
     let l = c.loop-index in
     let i = l.invariant in
     let ones = ones_half l.left in
@@ -17,10 +17,11 @@ loop-index-preserved c =
           (omega (arith, i.room)) i.bytes c.byte_of.ensures.named (λ odd. omega (arith, odd, ones, i.ones, c.requires));
       ones = omega (arith, ones, i.ones);
       room = length-set l.word l.index c.byte_of.result ∙ i.room;
+      steps = omega (arith, c.tick.ensures, c.byte_of.ensures.steps, i.steps);
     }
 
 pub returns-clause-bytes : goal.returns-clause-bytes
-returns-clause-bytes c =
+returns-clause-bytes g c =
     let l = c.loop-index in
     let i = l.invariant in
     let whole : take l.index l.word ++ [] ≡ l.word =
