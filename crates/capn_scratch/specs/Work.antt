@@ -1,5 +1,5 @@
--- The bound on the work from bytes to a message, in steps. A step is a read of bytes, a write of a word of scratch, or a
--- turn of a loop. (Our own.)
+-- The bound on the work from bytes to a message, in steps. A step is a read of bytes, a write of a word of scratch, or
+-- a turn of a loop. (Our own.)
 use Rattle.std.specs.Prelude.{ℕ, ◌+◌, ◌*◌}
 
 -- The greatest number of steps from `bytes` bytes to the message, with `scratch` words of scratch: 3 for each byte, 22

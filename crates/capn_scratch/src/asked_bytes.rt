@@ -1,4 +1,10 @@
 //! The trait `AskedBytes`, bytes on which one task can be run, and whose reads are counted.
+//!
+//! A call that gets [`AskedBytes`] can run only one task on the bytes, since they are moved. The task, a [`BytesTask`],
+//! gets the bytes as [`CountedBytes`] and the scratch as [`CountedScratch`], and counts at most the stated number of
+//! steps. A call can have the condition `requires work { B.allows bytes n }`. The body of the call is then proved for
+//! all bytes that allow `n` steps, including bytes that allow no more. So the condition bounds the call's work. A slice
+//! allows any number of steps, so callers have nothing to prove.
 
 ghost use Rattle.std.specs.Prelude.{◌≡◌, ℕ, ◌+◌, ◌<◌, ◌≤◌, List, length};
 

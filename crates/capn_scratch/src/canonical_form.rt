@@ -199,9 +199,9 @@ pub fn canonical_into_form(
 /// Writes the canonical bytes of the value that `bytes` denote in `form`, within `limits`, to the beginning of `out`.
 /// Returns the result of [`canonical_into_form`], which is this call on a slice.
 ///
-/// Here `bytes` are any [`AskedBytes`], so the clause `work` bounds the steps from the bytes to the canonical bytes, for
-/// the unpacking, the segment table, the walk and the layout together. A step is a read of up to 8 of the bytes or of the
-/// unpacked bytes, a write of a word of `scratch`, or a turn of a loop. In the steps on the message, the loops over the
+/// Here `bytes` are any [`AskedBytes`], so the clause `work` bounds the steps from the bytes to the canonical bytes,
+/// for the unpacking, the segment table, the walk and the layout together. A step is a read of the bytes or of the
+/// unpacked bytes, a write of a word of `scratch`, a read of the message, or a turn of a loop. The loops over the
 /// numbers and the bits of a list are not counted, nor are those over the zeros of a buffer. (Our own.)
 #[inline(always)]
 pub fn canonical_into_form_of<B: AskedBytes>(
@@ -219,9 +219,11 @@ pub fn canonical_into_form_of<B: AskedBytes>(
     // within the limits, `scratch` has the words that the bytes need, and `out` has room for the canonical bytes.
     ensures answered { AnsweredForm form (B.bytes bytes) limits (length scratch.old) (length out.old) result }
     // If `result` is `Ok`, the canonical bytes are at the beginning of `out`, and the bytes after them are as before.
-    ensures written { IfOk result (λ c. WrittenForm form (B.bytes bytes) limits (length scratch.old) out.old out.new c) }
+    ensures written { IfOk result (λ c.
+        WrittenForm form (B.bytes bytes) limits (length scratch.old) out.old out.new c) }
     // If `result` is `Err(e)`, the reason that `e` gives is true, and no earlier test refuses the bytes.
-    ensures refused { IfErr result (λ e. IsFormRefused form (B.bytes bytes) limits (length scratch.old) (length out.old) e) }
+    ensures refused { IfErr result (λ e.
+        IsFormRefused form (B.bytes bytes) limits (length scratch.old) (length out.old) e) }
     // If `result` is an `Err`, `out` is as it was.
     ensures unchanged { OnErr result (out.new ≡ out.old) }
     // The walk pays at most the budget, even if the message is refused.

@@ -1,4 +1,8 @@
 //! The types `CountedBytes` and `CountedWords`, bytes and words that can be read only by calls that count.
+//!
+//! The fields are private to this file, no other ledger fits the types, and no call returns a slice or a `Space`. The
+//! turns of a loop are counted only if the author of the loop calls [`Steps::tick`]. The words are lent to a task on a
+//! message as [`Prepaid`], after the greatest number of reads of the task was counted.
 
 ghost use Rattle.std.specs.Prelude.{◌≡◌, ◌+◌, ◌*◌, ◌/◌, ◌<◌, ◌≤◌, ◌∷◌, [], length, drop, take, slice_index};
 ghost use Rattle.std.specs.Prelude.{slice_range, ◌++◌};

@@ -44,8 +44,8 @@ fn set_word(words: &mut [[u8; 8]], index: usize, number: u64)
     words[index] = number.to_le_bytes();
 }
 
-/// Bytes of the scratch that can be written only by calls that count in a [`Steps`] of the same ledger. They are read as
-/// [`CountedBytes`], once they are written.
+/// Bytes of the scratch that can be written only by calls that count in a [`Steps`] of the same ledger. They are read
+/// as [`CountedBytes`], once they are written.
 #[derive(Drop)]
 pub(crate) struct CountedText<'s, L: Ledger> {
     bytes: &'s mut [u8],

@@ -12,8 +12,8 @@ use crate::steps::Steps;
 use std::sync::ledger::Ledger;
 
 /// Writes the ends of the first `count` segments to the beginning of `ends`, one in each word. `sizes` are the entries
-/// of the segment table. An end is a number of words from the start of the message. Counts in `steps` as three steps for
-/// each end.
+/// of the segment table. An end is a number of words from the start of the message. Counts in `steps` as three steps
+/// for each end.
 #[inline(always)]
 pub(crate) fn put_ends<L: Ledger>(
     sizes: &CountedBytes<'_, L>,

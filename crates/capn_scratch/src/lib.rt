@@ -23,9 +23,9 @@
 //! form it also states a number of words that is enough for every input.
 //!
 //! [`canonical_into_form_of`] is the same call on [`AskedBytes`], bytes on which one task can be run. Its clause `work`
-//! bounds the whole way from the bytes to the canonical bytes: the unpacking, the segment table, the walk and the layout.
-//! The task gets the bytes as [`CountedBytes`] and the scratch as [`CountedScratch`], whose calls count in [`Steps`]. A
-//! slice allows any number of steps.
+//! bounds the whole way from the bytes to the canonical bytes: the unpacking, the segment table, the walk and the
+//! layout. The task gets the bytes as [`CountedBytes`] and the scratch as [`CountedScratch`], whose calls count in
+//! [`Steps`]. A slice allows any number of steps.
 //!
 //! No call allocates memory or takes an allocator.
 #![tactic(auto)]

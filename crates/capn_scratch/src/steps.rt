@@ -5,8 +5,8 @@ ghost use Rattle.std.specs.Prelude.{◌≡◌, ◌+◌, ◌<◌};
 use std::marker::Model;
 use std::sync::ledger::{Blank, Book, Ledger, Share};
 
-/// The number of counted steps: reads of bytes, writes of scratch, turns of loops, and what is lent to a task. The value
-/// has size 0 at run time, and no call lowers the number.
+/// The number of counted steps: reads of bytes, writes of scratch, turns of loops, and reads of a message that is lent
+/// to a task. The value has size 0 at run time, and no call lowers the number.
 #[derive(Drop)]
 pub struct Steps<L: Ledger> {
     book: Book<L>,

@@ -6,8 +6,9 @@ use Rattle.capn_scratch.specs.declared.group.Size.{Size}
 use Rattle.capn_scratch.specs.declared.group.Stop.{Stop}
 use Rattle.capn_scratch.specs.declared.group.Stop.TheVariants as stops
 
--- If the result is `Ok`, `size` is the size of the group at the front of `rest`. The group is complete, has at least two
--- bytes, and unpacks to 1 to `room` words. If the result is `Cut` or `TooLong`, it is true of the group (`IsCut`, `IsTooLong`).
+-- If the result is `Ok`, `size` is the size of the group at the front of `rest`. The group is complete, has at least
+-- two bytes, and unpacks to 1 to `room` words. If the result is `Cut` or `TooLong`, it is true of the group (`IsCut`,
+-- `IsTooLong`).
 abbrev pub SizeGives : List ℕ → ℕ → Result Size Stop → Type 0
 SizeGives rest room (Ok size) =
     (size.bytes ≡ len_at rest) × (size.words ≡ words_at rest) × (1 < size.bytes) × (size.bytes ≤ length rest)

@@ -13,8 +13,8 @@ returns-in-Ok-clause-told g c =
     c.in-Ok.ensures.found in
     let packs = all_unpacked bs p.0 text c.in-Ok.field-0 c.args.words p.1 p.2 found
     (omega (arith, ap length c.into_bytes.ensures)) in
-    packed_told bs text c.args.words packs (omega (arith, ap length c.into_bytes.ensures)) c.args.limits _ c.args.out.now
-    c.of_frame.new.out c.of_frame.result c.requires.few c.of_frame.ensures.told
+    packed_told bs text c.args.words packs (omega (arith, ap length c.into_bytes.ensures)) c.args.limits _
+    c.args.out.now c.of_frame.new.out c.of_frame.result c.requires.few c.of_frame.ensures.told
 
 pub returns-in-Err-clause-told : goal.returns-in-Err-clause-told
 returns-in-Err-clause-told g c =

@@ -9,7 +9,8 @@ loop-at-preserved g c =
     let l = c.loop-at in
     let is = c.in-Ok.ensures.size in
     record {
-      unpacked = unpacked_more _ _ _ _ _ _ _ _ l.invariant.unpacked (rw c.rest-rest.ensures at c.put_group.ensures.takes) is.5;
+      unpacked = unpacked_more _ _ _ _ _ _ _ _ l.invariant.unpacked
+          (rw c.rest-rest.ensures at c.put_group.ensures.takes) is.5;
       filled = omega (arith, l.invariant.filled, is.5);
       long = omega (arith, l.invariant.long);
       steps = omega (
