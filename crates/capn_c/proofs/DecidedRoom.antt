@@ -121,7 +121,8 @@ one_served answer one n s t r q ((a, h, i), e) ((b, k, j), f) =
     )
 
 module _ (form : Form) (bs : List ℕ) (limits : Bounds) where
-  pub one_answer : (a b : List ℕ) (m o : ℕ) → Answers form bs limits a m → Answers form bs limits b o → (a ≡ b) × (m ≡ o)
+  pub one_answer : (a b : List ℕ) (m o : ℕ) → Answers form bs limits a m → Answers form bs limits b o
+      → (a ≡ b) × (m ≡ o)
   one_answer a b m o h k =
       let same = one_message form bs limits.message_words h.message k.message h.reads k.reads in
       let texts = answers_only form bs limits a m h k.answer.value

@@ -1,6 +1,7 @@
 -- The clauses of `capn_canonical_with_scratch` allow one status and one report for each input, each number of words of
 -- scratch, and each length of the buffer. (For `decision.rt`.)
-use Rattle.std.proofs.Common.{IsTrue, ◌≡◌, ◌⊎◌, ◌↔◌, ◌≤◌, true, false, ℕ, zero, suc, inl, inr, List, length, refl, ap, sym, ◌∙◌, arith}
+use Rattle.std.proofs.Common.{IsTrue, ◌≡◌, ◌⊎◌, ◌↔◌, ◌≤◌, true, false, ℕ, zero, suc, inl, inr, List, length, refl, ap}
+use Rattle.std.proofs.Common.{sym, ◌∙◌, arith}
 use Rattle.std.proofs.Common.{Result, Ok, Err, replicate, subst}
 use Rattle.capn_walk.specs.Limits.{Bounds}
 use Rattle.capn_canon.specs.Denotes.{Answers}
@@ -99,8 +100,9 @@ module _ (F L T : Type 0) (form : Form) (bs : List ℕ) (limits : Bounds) (scrat
       → LacksScratch form bs limits.message_words scratch b → a ≡ b
   one_need a b h k =
       let nothing : List ℕ = replicate n 0 in
-      let same = decision form bs limits scratch nothing nothing nothing (Err (lent.NoScratch a)) (Err (lent.NoScratch b))
-      (record { written = tt; refused = h; unchanged = refl }) (record { written = tt; refused = k; unchanged = refl }) in
+      let same = decision form bs limits scratch nothing nothing nothing (Err (lent.NoScratch a))
+      (Err (lent.NoScratch b)) (record { written = tt; refused = h; unchanged = refl })
+      (record { written = tt; refused = k; unchanged = refl }) in
       let e : Err (lent.NoScratch a) ≡ Err (lent.NoScratch b) = same.0 in
       cc
 
@@ -128,7 +130,8 @@ module _ (F L T : Type 0) (form : Form) (bs : List ℕ) (limits : Bounds) (scrat
   clauses : (x : ℕ) (o : CapnReport) → Told x o → (x ≡ 9 → ⊥)
       → IsTold code report_of (Wrong F L T) (IsLentTold form bs limits n) (IsRefused form bs limits) x o
   clauses x o h differs =
-      room_clauses x o h.of_form h.of_limits h.of_tariff h.blank (IsLentTold form bs limits n) (IsRefused form bs limits)
+      room_clauses x o h.of_form h.of_limits h.of_tariff h.blank (IsLentTold form bs limits n)
+      (IsRefused form bs limits)
       h.found (λ k. elim (above x h.listed k) [ inl e ↦ absurd (differs e) | inr l ↦ h.refused l ])
 
   neither : Told s r → Told t q → (s ≡ 9 → ⊥) → (t ≡ 9 → ⊥) → Agree s r t q
