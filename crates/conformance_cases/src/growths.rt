@@ -1,6 +1,6 @@
 //! `answer_each`: answers a case with enough memory, and then with each allocation of its call refused in turn.
 
-ghost use Rattle.std.specs.Prelude.{◌≡◌, ◌×◌, ◌++◌, codes, drop, HoldsAt, IfOk, string_bytes};
+ghost use Rattle.std.specs.Prelude.{◌≡◌, ◌<◌, ◌++◌, codes, drop, length, HoldsAt, IfOk, string_bytes};
 ghost use Rattle.hex.specs.Hex.{encode_lower};
 
 use anyhow::{Result, bail};
@@ -77,7 +77,7 @@ pub enum Growths {
 
 /// Returns the allocations to refuse for a case, and the words of its call.
 pub fn growths_and_call<'w, 'a>(words: &'w [&'a str]) -> (Growths, &'w [&'a str])
-    ensures few { HoldsAt (λ it. it.now ≡ codes "few") words.now 0
+    ensures few { 0 < length words.now → HoldsAt (λ it. it.now ≡ codes "few") words.now 0
         → (result.0 ≡ Growths.Few) × (result.1.now ≡ drop 1 words.now) }
     ensures each { (HoldsAt (λ it. it.now ≡ codes "few") words.now 0 → ⊥)
         → (result.0 ≡ Growths.Each) × (result.1.now ≡ words.now) }
