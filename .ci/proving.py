@@ -54,7 +54,7 @@ def has_tests(name):
 
 
 def edits_of(name):
-    """Returns the paths of the must-fail edits of a crate, which the prover must refuse."""
+    """Returns the paths of a crate's must-fail edits, which the prover must refuse."""
     return sorted(glob.glob(os.path.join(TOP, "crates", name, "must-fail", "*.edit")))
 
 
@@ -159,8 +159,8 @@ def kit():
 
 
 def library_started(top, jobs):
-    """Starts the command that proves the library for C and builds its archive, and returns the running command. It uses
-    the compiled libraries in the folders out/ of the crates below `top`, which an earlier run left there."""
+    """Starts the command that proves the library for C and builds its archive, and returns the running command. The
+    command uses compiled libraries that an earlier run left in the folders out/ of the crates below `top`."""
     kit_folder, folder = kit(), os.path.join(TOP, "crates", LIBRARY)
     words = ["-L", f"dependency={kit_folder}/rlibs"]
     for it in sorted(glob.glob(os.path.join(top, "crates", "*", "out", "rlib"))):

@@ -1,7 +1,8 @@
-/* The calls of capn.h. If the argument `limits`, `report` or `which` of a call is null, the call replaces it. Then it
- * makes the proved (formally verified) call of the same name. `make linked` renames the proved calls to proved_capn_*,
- * and hides them. The code of this file isn't proved. It keeps no state, and reads and writes only its arguments. If no
- * argument is null, the code does two comparisons and a jump. */
+/* The calls of capn.h. Each call makes the proved (formally verified) call of the same name. If its argument `limits`
+ * is null, it passes the default limits instead. If its argument `report` or `which` is null, it passes the address of
+ * a local variable instead. `make linked` renames the proved calls to proved_capn_*, and hides them. The code of this
+ * file isn't proved. It keeps no state, and reads and writes only its arguments. If no argument is null, the code does
+ * two comparisons and a jump. */
 #include "capn.h"
 
 static const capn_limits usual = CAPN_USUAL_LIMITS;

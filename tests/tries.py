@@ -170,7 +170,7 @@ def cases_job(crate, cases):
 
 
 def imported(text, crates):
-    """Yields the names that a file imports from these crates, or writes with the path of a crate."""
+    """Yields the names that a file imports from these crates, and the names that it writes as CRATE::NAME."""
     for crate, one, several in re.findall(r"^(?:pub )?use (\w+)::(?:([\w:]+)|\{([^}]*)\});", text, re.M):
         if crate in crates:
             yield from re.findall(r"\w+", several or one)
@@ -186,8 +186,8 @@ def product():
 
 
 def exported():
-    """Yields each function that a crate of the product (capn*) exports under its own name, and each call of
-    c/capn.h."""
+    """Yields each function that a crate of the product (capn*) exports, and each call of c/capn.h. Leaves out functions
+    that the crate only exports again from another crate of the product."""
     for crate in proving.crates():
         path = os.path.join("crates", crate, "src", "lib.rt")
         if crate not in product() or not os.path.exists(os.path.join(TOP, path)):
@@ -201,8 +201,8 @@ def exported():
 
 @functools.cache
 def words_of_tests():
-    """Returns the words of each test file, by the path of the file. These are the names that the file imports from the
-    crates of the product (capn*). For a file of tests/c, they are all words of the file."""
+    """Returns the names that each test file uses, by the path of the file. For a crate's test file, these are the names
+    that it imports from the crates of the product (capn*). For a file of tests/c, they are all words of the file."""
     found = {}
     for crate in proving.crates():
         if crate.startswith(("test_", "conformance_")) or crate in product() and tests_of(crate):
@@ -269,8 +269,8 @@ def run_all(jobs):
 
 
 def nearest(crate, names, tried):
-    """Returns the crates of `tried` that are nearest to a crate. A crate that names `crate` is one step away. A crate
-    that names such a crate is two steps away, and so on."""
+    """Returns the crates of `tried` that are the fewest steps away from a crate. A crate that names `crate` is one step
+    away. A crate that names such a crate is two steps away, and so on."""
     above = {crate}
     while above:
         found = [it for it in tried if it in above and it != crate]
@@ -295,7 +295,7 @@ def calls_reaching(crate, names):
 
 
 def reaching(crate):
-    """Returns what tests a crate: the nearest crates with tests, a program with test cases, and the calls of these
-    cases."""
+    """Returns what tests a crate: the crates of tests that are the fewest steps away from it, a program with test
+    cases, and the calls of these cases."""
     names = proving.crates()
     return nearest(crate, names, [it for it in names if tests_of(it)]), *calls_reaching(crate, names)

@@ -141,7 +141,7 @@ def limits_of(options: list[str]) -> list[str]:
 
 def is_for_parts(command: list[str]) -> bool:
     """Returns whether the script may split an archive for this command. The command has to succeed on an empty input,
-    and to write nothing."""
+    and must write nothing for this input."""
     if command[0] not in COMMANDS or OTHER_FORMS & set(command):
         return False
     ran = subprocess.run([CAPN, *command], stdin=subprocess.DEVNULL, capture_output=True, check=False)

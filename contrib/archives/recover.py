@@ -191,7 +191,7 @@ class Archive:
         return at + table + 8 * words if words <= self.sample.words else 0
 
     def first_good(self, rows: list[tuple[int, list[int]]]) -> int:
-        """Returns where the first row begins in which all messages are good, or 0 if there is no such row. One process
+        """Returns the beginning of the first row whose messages are all good, or 0 if there is no such row. One process
         of `capn` checks all rows."""
         frames = b"".join(self.data[begin:ends[-1]] for begin, ends in rows if ends)
         lines = subprocess.run(LIST, input=frames, capture_output=True, check=False).stdout.splitlines()

@@ -46,8 +46,8 @@ class Message:
 
 @dataclass
 class Report:
-    """The counts for a report: the number of messages, and the number of messages that were kept. It also has the
-    number, the offset and the error of each rejected message."""
+    """The counts for a report: the number of messages, and the number of messages that were kept. The object also has
+    the number, the offset and the error of each rejected message."""
 
     messages: int = 0
     kept: int = 0
@@ -79,8 +79,8 @@ def messages_of(listing: bytes) -> list[Message]:
 
 
 def cut(path: str, most: int) -> list[Part]:
-    """Returns the parts of a file. A part has complete messages of at most this many bytes, or a single longer
-    message."""
+    """Returns the parts of a file. A part has complete messages with at most `most` bytes in all, or a single message
+    that is longer."""
     with open(path, "rb") as file:
         try:
             messages = messages_of(capn("list", "--keep-going", stdin=file))

@@ -362,7 +362,7 @@ static uint64_t of_words(uint16_t words, uint64_t stored) {
     return capn_field(&record, 0, 64, 7);
 }
 
-/* Writes a message of one segment, and returns the message's length. These words follow the segment table. */
+/* Writes a message of one segment, and returns the message's length. The given words follow the segment table. */
 static size_t message(uint8_t *to, const uint64_t *words, size_t count) {
     memset(to, 0, 8);
     to[4] = (uint8_t)count;
@@ -483,10 +483,9 @@ static void by_hand(void) {
     entry.kind = CAPN_KIND_U16;
     want("other numbers", capn_text(abc, &entry, &text, &length), 0);
 
-    /* Reads each kind of list as each other kind. The lists have two elements. */
-    /* This table says which kinds of lists can be read as which kinds. A string stands for the kind as which a list is
-     * read. A character of the string stands for the list's own kind, and is `1` if the list can be read. Strings and
-     * characters are in the order void, bits, bytes, u16, u32, u64, pointers, rows (structs). */
+    /* For each pair of kinds, reads a list of one kind as a list of the other kind. The lists have two elements. */
+    /* Character j of string i is `1` if a list of kind j can be read as a list of kind i. The kinds are in the order
+     * void, bits, bytes, u16, u32, u64, pointers, rows (structs). */
     static const char *const taken[] = {
         "1......1", ".1......", "..1....1", "...1...1", "....1..1", ".....1.1", "......11", "1.111111"};
     /* the value of an element whose bits are all 1, for each kind from void to u64 */

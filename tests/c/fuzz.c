@@ -1,4 +1,4 @@
-/* Passes any bytes to each call of capn.h, in each form (stream, packed and bare). The calls must agree with one
+/* Passes arbitrary bytes to each call of capn.h, in each form (stream, packed and bare). The calls must agree with one
  * another, and must not read outside of the bytes. Each line of standard input ends with bytes in hexadecimal. The
  * program passes these bytes, and copies of them with some bytes changed. The changes come from a fixed seed. */
 
@@ -165,7 +165,7 @@ static void message(uint32_t form, const uint8_t *bytes, size_t size) {
     need(!memcmp(&report, &hashed, sizeof report), "the reports of a refusal", bytes, size);
 }
 
-/* Unpacks any bytes as packed bytes. Packs the result, and unpacks it again. */
+/* Unpacks arbitrary bytes as packed bytes. Packs the result, and unpacks it again. */
 static void packing(const uint8_t *bytes, size_t size) {
     static uint8_t words[1 << 16], again[1 << 16], text[10 * (1 << 13)];
     capn_report report, other;

@@ -194,7 +194,7 @@ static void kept(const uint8_t *out, size_t from, size_t size) {
     for (size_t i = from; i < size; i++) need(out[i] == FILL, "the rest of the buffer is as it was");
 }
 
-/* Chooses limits for a call: the default limits, low limits, or any numbers. */
+/* Chooses limits for a call: the default limits, low limits, or random numbers. */
 static void choose(capn_limits *l) {
     *l = usual;
     const uint32_t choice = any(8);
@@ -209,7 +209,7 @@ static void choose(capn_limits *l) {
     }
 }
 
-/* Chooses the size of a buffer in bytes. The size is 0, small, about as large as is enough, or large. */
+/* Chooses the size of a buffer in bytes. The size is 0, small, close to the size `enough`, or large. */
 static size_t room_for(size_t enough) {
     switch (any(6)) {
     case 0: return 0;
@@ -312,8 +312,7 @@ static size_t call(uint32_t which, const uint8_t *bytes, size_t size, size_t eno
     case 11: {
         doing = "capn_same";
         uint32_t *told = any(4) ? (uint32_t *)(void *)filled(of_other, sizeof *told) : NULL;
-        /* The second message is the whole first message, its first bytes up to some byte, or its last bytes from some
-         * byte on. */
+        /* The second message is the whole first message, a prefix of it, or a suffix of it. */
         const uint32_t of = size ? any(3) : 0, at = of ? any((uint32_t)size + 1) : 0;
         const uint8_t *second = of == 1 ? bytes + at : bytes;
         const size_t most = of == 1 ? size - at : of ? at : size;
@@ -348,8 +347,8 @@ static size_t call(uint32_t which, const uint8_t *bytes, size_t size, size_t eno
     return status == CAPN_OK || status == CAPN_NO_ROOM ? r->length : 0;
 }
 
-/* Makes the next input: a message, a packed message, bytes from standard input, a changed copy of one of these, or any
- * bytes. */
+/* Makes the next input: a message, a packed message, bytes from standard input, a changed copy of one of these, or
+ * random bytes. */
 static size_t next(uint8_t *bytes) {
     static uint8_t text[LONGEST];
     const uint32_t choice = any(8);

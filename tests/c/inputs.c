@@ -57,8 +57,8 @@ static void answered(void) {
     want("its length", r.length, 32);
 }
 
-/* Makes each call of capn.h with a message and buffers at any address. The message and each buffer end where their
- * allocated blocks end, so that a sanitizer detects an access past the end. */
+/* Makes each call of capn.h with a message and buffers that begin 0 to 7 bytes after an aligned address. The message
+ * and each buffer end where their allocated blocks end, so that a sanitizer detects an access past the end. */
 static void anywhere(void) {
     const uint8_t packed[8] = {0x10, 3, 0x10, 2, 1, 5};
     for (size_t off = 0; off < 8; off++)
@@ -207,8 +207,8 @@ static void rooms(void) {
 }
 
 static void announced(void) {
-    /* These segment tables of 8 bytes announce 2^28 words, one word more, 2^32 segments, the greatest number of
-     * segments, or one segment more. */
+    /* These segment tables of 8 bytes announce 2^28 words, 2^28 + 1 words, 2^32 segments, 4,096 segments (the most that
+     * a message may have), and 4,097 segments. */
     const uint8_t words[8] = {0, 0, 0, 0, 0, 0, 0, 0x10}, more[8] = {0, 0, 0, 0, 1, 0, 0, 0x10};
     const uint8_t all[8] = {255, 255, 255, 255};
     const uint8_t most[8] = {0xff, 0x0f, 0, 0}, above[8] = {0, 0x10, 0, 0};
@@ -222,8 +222,8 @@ static void announced(void) {
     want("announced", r.at, 1ull << 32);
     want("4,096 segments", capn_check(CAPN_STREAM, most, 8, &greatest, &r), CAPN_FRAME_CUT);
     want("4,097 segments", capn_check(CAPN_STREAM, above, 8, &greatest, &r), CAPN_TOO_MANY_SEGMENTS);
-    /* Each 2 bytes are a run of 256 zero words in packed bytes. The limit of the call is 256 words, so the second run
-     * exceeds it. */
+    /* In these packed bytes, each 2 bytes unpack to a run of 256 zero words. The limit of the call is 256 words, so the
+     * second run exceeds it. */
     static uint8_t zeros[2 * 4096];
     for (size_t i = 0; i < sizeof zeros; i += 2) zeros[i + 1] = 255;
     want("a packed run above its maximum", capn_unpack(zeros, sizeof zeros, 256, NULL, 0, &r), CAPN_PACKED_TOO_LONG);

@@ -33,8 +33,8 @@ def number(rng):
 
 
 def add(words, rng, depth):
-    """Adds an object to the words of a segment. Returns a pointer to the object without its offset, and the place where
-    the object begins."""
+    """Adds an object to the words of a segment. Returns the pointer to the object, with its offset still 0, and the
+    place where the object begins."""
     kind = rng.random() if depth else 0.3 + 0.7 * rng.random()
     begin = len(words)
     if kind < 0.3:

@@ -1,6 +1,6 @@
-/* Makes calls while every allocation fails. The inputs are the messages of the test vectors that have no segment table,
- * or at most 64 segments. No call may allocate. Each call has to return the same as with memory, for an empty buffer,
- * for a buffer of 1 byte or 1 entry, and for a large buffer. */
+/* Makes calls while every allocation fails. The inputs come from the test vectors. They are the messages that have no
+ * segment table, or at most 64 segments. No call may allocate. Each call has to return the same as with memory, for an
+ * empty buffer, for a buffer of 1 byte or 1 entry, and for a large buffer. */
 #include "capn.h"
 #include "refusing.h"
 #include <stdio.h>

@@ -2,8 +2,8 @@
  * call without `_segments` returns for the stream of the same segments. Each line of standard input ends with the bytes
  * of a stream, in hexadecimal. The streams are these bytes, and copies of them with some bytes changed, by a fixed
  * seed. Each segment is copied alone to an odd address. The last segment ends at the end of a page, before a page that
- * can't be accessed. Then the test makes the calls on segments that no stream has. Finally every allocation fails, and
- * the test makes the calls that need no memory. */
+ * can't be accessed. Then the test makes the calls on segments that no stream can have. Finally every allocation fails,
+ * and the test makes the calls that need no memory. */
 #define TEST "segments"
 #include "refusing.h"
 #include "wanted.h"
@@ -99,7 +99,7 @@ static void held(const uint8_t *frame, size_t size, const capn_limits *limits) {
     for (size_t i = 0; i < made; i++) free(blocks[i]);
 }
 
-/* Makes the calls on segments that no stream has, and on so many segments that their stream would be long. */
+/* Makes the calls on segments that no stream can have, and on so many segments that their stream would be long. */
 static void borders(void) {
     static const uint8_t words[8 * 1024];
     static capn_segment segments[MOST + 1];
@@ -149,8 +149,8 @@ static void borders(void) {
     want("no tariff", capn_canonical_segments(segments, 1, &other, out, 32, &report), CAPN_BAD_TARIFF);
 }
 
-/* Makes the calls for segments while every allocation fails. The message has a pointer in one segment that leads to a
- * struct in the next segment. Only the call for a digest allocates, so only that call fails. */
+/* Makes the calls for segments while every allocation fails. A pointer in one segment of the message leads to a struct
+ * in the next segment. Only the call for a digest allocates, so only that call fails. */
 static void without_memory(void) {
     uint8_t far[8] = {2, 0, 0, 0, 1}, object[16] = {0, 0, 0, 0, 1, 0, 0, 0, 5}, out[32];
     const capn_segment segments[] = {{far, 1}, {object, 2}};

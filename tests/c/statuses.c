@@ -180,7 +180,7 @@ static void called(void) {
     is("a struct with a zero word", capn_is_canonical(message + 8, 16, &usual, &report), CAPN_NOT_CANONICAL);
 }
 
-/* Makes calls while every allocation fails. A stream of 65 segments and packed bytes give CAPN_MEMORY, and so do calls
+/* Makes calls while every allocation fails. Packed bytes give CAPN_MEMORY, as do a stream of 65 segments and the calls
  * that hash, pack and unpack. The canonical bytes and the index of a message in one or two segments need no memory. The
  * digest of canonical bytes needs no memory either. */
 static void without_memory(void) {

@@ -1,5 +1,6 @@
 /* Tests capn_survey, which returns statistics of a message. The messages are written by hand, and some are invalid. The
- * results are compared with the other calls. The message lies at any address, next to a page that can't be accessed. */
+ * results are compared with those of the other calls. The message is aligned to 8 bytes or not, and lies next to a page
+ * that can't be accessed. */
 #define TEST "survey"
 #include "wanted.h"
 
@@ -53,7 +54,7 @@ static void figures(const char *what, const uint64_t *words, uint32_t count, cap
             want("the same", memcmp(&same, &f, sizeof f) != 0, 0);
             want("its report", r.paid != f.paid || r.visits != f.visits || r.length || r.at || r.segment || r.word, 0);
         }
-        /* Calls capn_survey on the same message at each other address. */
+        /* Calls capn_survey on the same message at addresses that are 1 to 7 bytes lower. */
         for (size_t off = 1; off < 8; off++) {
             uint8_t *odd = memmove(in - off, in, size);
             capn_figures same = {0, 0, 0, 0, 0, 0, 0, 0};

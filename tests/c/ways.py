@@ -1,6 +1,6 @@
-"""Reads calls from standard input, and answers each call that has limits with the command line tool `capn` that CAPN
-names. The answers have the format of `ways answers` (see ways.c). The path to an error, or the first difference from
-the canonical form, comes from the output of `capn explain`."""
+"""Reads calls from standard input. For each call that has limits, prints an answer in the format of `ways answers` (see
+ways.c). The answer comes from the command line tool `capn` that CAPN names. The path to an error, or the first
+difference from the canonical form, comes from the output of `capn explain`."""
 import os
 import re
 import subprocess

@@ -31,8 +31,8 @@ def pairs(page):
 
 
 def tried(shell, capn):
-    """Runs the code blocks of docs/GUIDE.md. Returns how many blocks ran, and how many blocks printed another output
-    than the page shows or failed."""
+    """Runs the code blocks of docs/GUIDE.md. Returns how many blocks ran, and how many blocks failed or printed another
+    output than the page shows."""
     ran = wrong = 0
     with tempfile.TemporaryDirectory() as folder:
         here = Path(folder)

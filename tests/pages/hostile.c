@@ -1,7 +1,7 @@
 /* Calls the functions of the examples in docs/C.md. Each code block of that page is compiled alone, and linked with
  * this program.
  *
- * `hostile CALL [DEPTH] < MESSAGE` calls one function on standard input, with this nesting limit.
+ * `hostile CALL [DEPTH] < MESSAGE` calls one function on standard input, with the nesting limit DEPTH.
  * `hostile sign KEY < MESSAGE` writes a signature.
  * `hostile verify KEY SIGNATURE < MESSAGE` verifies a signature.
  * `hostile all ROUNDS FILE..` calls all functions on each file and on changed copies of it, and compares some results.

@@ -17,7 +17,7 @@ import help_texts
 import model
 
 HELP = help_texts.helps()
-# In a help text, these words name the value of an option if the value is a number.
+# If an option takes a number, its help text has one of these words in place of the number.
 NUMBERS = ("N", "K")
 
 

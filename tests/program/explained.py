@@ -182,7 +182,7 @@ class Owner(Explanation):
 
 
 def difference(walk, segment, canonical):
-    """Returns a text about the first word of a segment that differs from the canonical bytes. The text says which
+    """Returns a text about the first word that differs between a segment and the canonical bytes. The text says which
     object the word is part of."""
     at = next(i for i in range(0, len(segment), 8) if segment[i:i + 8] != canonical[i:i + 8])
     word, other = segment[at:at + 8], canonical[at:at + 8]

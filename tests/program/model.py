@@ -30,7 +30,7 @@ def number(data, at, size):
 
 def first_frame(data, at, most):
     """Returns the segments of the message at an offset of a stream, and the offset after the message. Returns None if
-    the stream ends at the first offset."""
+    the stream ends at the given offset."""
     if at == len(data):
         return None
     if len(data) - at < 4:
@@ -490,7 +490,7 @@ def stands(value, way):
 
 def styled(value, style):
     """Returns the output of `show` for a part of a message, in the style plain, text, json or both. `value` is None if
-    the message doesn't have the part. The output contains its last line."""
+    the message doesn't have the part. In the styles plain and text, the output ends with the line `end`."""
     if style in ("json", "both"):
         if value is None:
             return "\n"

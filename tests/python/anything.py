@@ -65,7 +65,7 @@ def data_of(found):
 
 def elements_of(found):
     """Reads an object as a list of elements without size (`Void`), and returns its elements. Raises a Mismatch unless
-    the object is null, a list of structs, or such a list."""
+    the object is null, a list of elements without size, or a list of structs."""
     if found.kind not in ("null", "void", "rows"):
         raise capn.Mismatch(f"there are no such elements, but {found!r}")
     return found.rows()

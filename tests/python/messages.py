@@ -60,7 +60,7 @@ def trimmed(value):
 
 def bare(value, backwards=False):
     """Encodes a value, and returns the words of the segment. The objects are in preorder. If `backwards` is true, the
-    objects of the last pointer of each object come first."""
+    pointers of each object are followed from the last to the first."""
     segment = [0]
 
     def put(at, value):

@@ -58,8 +58,8 @@ class AfterAnException(unittest.TestCase):
             yield lambda call=call: call([data], 5, in_place=True)
 
     def test_a_bytearray_can_be_changed(self):
-        # Each of the three messages is rejected. The first costs more than a traversal limit of one word. The length of
-        # the second isn't a whole number of words. The root of the third leads outside of the message.
+        # Each of the three messages is rejected. The first costs more than the traversal limit, which is one word. The
+        # length of the second isn't a whole number of words. The root of the third leads outside of the message.
         for bytes_of in SMALL, SMALL + b"x", stream(bytes.fromhex("0000000001000000")):
             data = bytearray(bytes_of)
             raised = 0
@@ -186,7 +186,7 @@ def refused(call, *arguments, **options):
 
 
 class Shapes(unittest.TestCase):
-    """Tests buffers with gaps between their bytes, buffers in another memory order, and buffers without bytes."""
+    """Tests buffers with gaps between their bytes, buffers in Fortran order, and buffers without bytes."""
 
     def test_no_bytes_in_place(self):
         for empty in (ctypes.c_uint32 * 0)(), bytearray(), memoryview(b""), mmapped():

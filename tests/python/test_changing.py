@@ -53,8 +53,8 @@ class Changing(unittest.TestCase):
         self.assertEqual((ran.returncode, ran.stdout), (0, "alive\n"), ran.stderr)
 
     def test_the_bytes_are_not_held_during_a_call(self):
-        # The message is a list of null pointers, with 16 MiB. A call on it takes so long that another thread can change
-        # the size of the caller's buffer during the call.
+        # The message has 16 MiB, and is a list of null pointers. A call on it takes so long that another thread can
+        # change the size of the caller's buffer during the call.
         count = (1 << 21) - 1
         data = bytearray(stream((1 | (6 | count << 3) << 32).to_bytes(8, "little") + bytes(8 * count)))
         for call in capn.check, capn.survey, capn.canonical, capn.digest, capn.read, capn.departure:

@@ -29,12 +29,12 @@ def numbers(way):
 
 
 def said(out):
-    """Returns the lines that `explain` prints as a dictionary. The key of a line is the text before its colon."""
+    """Returns a dictionary with the lines that `explain` prints. The key of a line is the text before its colon."""
     return dict(line.split(": ", 1) for line in out.decode().splitlines() if ": " in line)
 
 
 def explain(data, form="stream", limits=capn.Limits()):
-    """Returns the lines of `explain` that the Python model prints, as a dictionary."""
+    """Returns a dictionary with the lines that the Python model prints for `explain`."""
     return said(explained.explain(data, form, **dataclasses.asdict(limits))[0])
 
 

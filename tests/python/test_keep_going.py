@@ -26,7 +26,8 @@ def told(found):
 
 
 def ways(data, packed):
-    """Yields functions that make a reader with `keep_going`, each over another kind of file with the given bytes."""
+    """Yields functions that make a reader with `keep_going`, each over a different kind of file with the given
+    bytes."""
     for ahead in False, True:
         for file in data, io.BytesIO(data), io.BufferedReader(io.BytesIO(data), 16), Pieces(data, 7):
             yield lambda f=file, a=ahead: capn.messages(f, packed, read_ahead=a, keep_going=True)

@@ -18,7 +18,7 @@ DIGEST = "6a3efd90ef3aebf0decabee51bbe92707bee76bb8f2830efd1bf615b14f61ac2"
 
 
 def setup(folder, *words):
-    """Runs the `setup.py` of a folder. No repository may be around this folder."""
+    """Runs the `setup.py` of a folder that isn't inside a repository."""
     env = {name: one for name, one in os.environ.items() if name not in ("CAPN_ARCHIVE", "LD_PRELOAD", "PYTHONPATH")}
     return subprocess.run([sys.executable, "-B", "setup.py", "-q", *words], cwd=folder, env=env, capture_output=True,
                           check=False, text=True)

@@ -85,8 +85,8 @@ class Stored(unittest.TestCase):
         answered = cases()
         self.assertGreater(len(answered), 500)
         for case, wanted in answered:
-            # The stored results differ from what the library reports in two ways. The result of a check ends with the
-            # capability, and an error of unpacking lacks the prefix `packed: `.
+            # There are two differences between the stored results and those of the library. The stored result of a
+            # check ends with the capability, and a stored error of unpacking lacks the prefix `packed: `.
             wanted = re.sub(r", (no capability|capability \d+)$", "", wanted)
             wanted = re.sub(r"^(Cut|TooLong) at", r"packed: \g<0>", wanted)
             with self.subTest(case=case):

@@ -125,8 +125,9 @@ class Schemas(unittest.TestCase):
 
     def test_lists_of_other_schemas(self):
         # Each value is read in three ways: as a list of structs, as a list of 16-bit numbers, and as a list of
-        # pointers. The expected results are the first number and the kind of the first pointer of each struct, the
-        # numbers, and the kinds of the pointers. None means that an error is expected.
+        # pointers. For the list of structs, the expected result has the first number of each struct and the kind of its
+        # first pointer. For the other two lists, it has the numbers, and the kinds of the pointers. None means that an
+        # error is expected.
         two = (0x10003).to_bytes(8, "little")
         for value, rows, numbers, pointers in (
             (None, [], [], []),

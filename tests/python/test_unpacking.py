@@ -91,8 +91,8 @@ class Splitters(unittest.TestCase):
         self.assertLess(took, 16 * MIB)
 
     def test_as_many_as_were_fed_come_at_once(self):
-        # These packed bytes unpack to about as many bytes as ordinary messages do. So one call returns all their
-        # messages.
+        # These packed bytes unpack to about as many bytes as the packed bytes of ordinary messages. So one call returns
+        # all their messages.
         source = random.Random(5)
         parts = [stream(source.randbytes(8 * source.randint(0, 40))) for _ in range(60_000)]
         splitter = capn.Splitter("packed")
