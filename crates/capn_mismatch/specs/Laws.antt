@@ -25,7 +25,8 @@ module _ {A : Type 0} where
   IsSameMismatch (After w is) (After k x) = (w ≡ k) × (is ≡ x)
   IsSameMismatch d e = ⊥
 
--- If two mismatches are both true of a message within limits, they are the same (`IsSameMismatch`).
+-- If two mismatches are both true of `message` within `limits`, they are the same (`IsSameMismatch`). The message is
+-- within the bounds of messages (`IsMessage`), and the limits are in their ranges (`AreLimits`).
 abbrev pub MismatchesAreOne : Type 0 → Type 0
 MismatchesAreOne A = (message : List (List ℕ)) (limits : Bounds) (d e : Mismatch A) → IsMessage message
     → AreLimits limits.message_words limits.budget limits.depth → IsMismatch message limits d

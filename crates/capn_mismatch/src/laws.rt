@@ -1,4 +1,4 @@
-//! The law of mismatches, as the contract of an empty function.
+//! The law of mismatches, as the contract of a function that only calls the laws that the proof needs.
 
 ghost use Rattle.capn_mismatch.specs.Laws.{MismatchesAreOne};
 
