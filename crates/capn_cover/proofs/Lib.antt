@@ -1,0 +1,10 @@
+mod Before
+mod Runs
+mod LaidItems
+mod Rooms
+mod CoverAt
+mod Visited
+mod Pads
+mod BelowSlots
+mod Whole
+mod WorkedCovers

@@ -1,0 +1,10 @@
+use Rattle.std.proofs.Common.{◌≡◌, ◌+◌, ◌*◌}
+use Rattle.capn_cover.specs.Covers.{rows_run}
+use Rattle.capn_cover.specs.inner.Laid.{laid}
+use Rattle.capn_cover.proofs.object_words.cover_rows.Given as goal
+
+abbrev pub invariant-loop-row : goal.invariant-loop-row
+invariant-loop-row l = record {
+  next : l.next ≡ l.first + l.row * (l.words + l.slots);
+  cells : l.cells ≡ laid (rows_run l.slot l.first l.words l.slots l.row) l.initial.cells;
+}

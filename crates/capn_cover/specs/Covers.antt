@@ -1,0 +1,107 @@
+-- The words that the visits of a walk cover, in order. The root's slot is covered by the message itself, before all
+-- visits. (Our own.)
+use Rattle.std.specs.Prelude.{ℕ, zero, suc, ◌+◌, ◌-◌, ◌*◌, ◌==◌, List, [], ◌∷◌, ◌++◌, take}
+use Rattle.std.specs.Prelude.{Result, Ok, Option, Some, None, if◌then◌else◌}
+use Rattle.capn_words.specs.Message.{total}
+use Rattle.capn_words.specs.declared.space.Place.{Place}
+use Rattle.capn_words.specs.declared.pointer.Pointer.{Pointer}
+use Rattle.capn_words.specs.declared.pointer.Pointer.TheVariants.{Far}
+use Rattle.capn_words.specs.declared.pointer.Width.TheVariants.{Link}
+use Rattle.capn_target.specs.declared.target.Target.{Target}
+use Rattle.capn_target.specs.declared.target.Target.TheVariants as targets
+use Rattle.capn_target.specs.declared.target.Shape.{Shape}
+use Rattle.capn_target.specs.declared.target.Shape.TheVariants as shapes
+use Rattle.capn_target.specs.declared.target.Fault.{Fault}
+use Rattle.capn_target.specs.Target.{content_words, pointer_in, target}
+use Rattle.capn_walk.specs.Visits.{Visit, pays, fails}
+use Rattle.capn_walk.specs.Accepted.{visits_within}
+use Rattle.capn_walk.specs.Limits.{Bounds}
+use Rattle.capn_cover.specs.declared.covered.Covered.{Covered}
+use Rattle.capn_cover.specs.declared.covered.Role.{Role}
+use Rattle.capn_cover.specs.declared.covered.Role.TheVariants as roles
+
+-- the number of the word at a place: how many words of the message lie before it
+abbrev pub number : List (List ℕ) → Place → ℕ
+number message at = total (take at.segment message) + at.word
+
+-- one word that is covered once: the number of the word, the number of the slot whose visit covers it, and what the
+-- word is there
+pub record Covering : Type 0 where
+  pub word : ℕ
+  pub slot : ℕ
+  pub role : Role
+
+-- `n` words from the number `first` on, in one role
+abbrev pub run : (slot : ℕ) → Role → (first n : ℕ) → List Covering
+run slot role first zero = []
+run slot role first (suc n) = (record { word = first; slot = slot; role = role }) ∷ run slot role (first + 1) n
+
+-- the words of `n` rows from the number `first` on, each with `a` data words and then `b` slots
+abbrev pub rows_run : (slot first a b n : ℕ) → List Covering
+rows_run slot first a b zero = []
+rows_run slot first a b (suc n) =
+    (run slot roles.Data first a ++ run slot roles.Slot (first + a) b) ++ rows_run slot (first + (a + b)) a b n
+
+-- the words of an object whose first word has the number `first`: of a struct its words and slots, of a list the words
+-- of its elements, of a list of structs the tag, the rows and the words behind them
+abbrev pub content_run : (slot first : ℕ) → Shape → List Covering
+content_run slot first (shapes.Node a b) = run slot roles.Data first a ++ run slot roles.Slot (first + a) b
+content_run slot first (shapes.Many Link n) = run slot roles.Slot first n
+content_run slot first (shapes.Many width n) = run slot roles.Numbers first (content_words width n)
+content_run slot first (shapes.Rows n a b span) =
+    run slot roles.Tag first 1
+    ++ (rows_run slot (first + 1) a b n
+    ++ run slot roles.Slack (first + 1 + n * (a + b)) (span - n * (a + b)))
+
+module _ (message : List (List ℕ)) where
+  -- the `pads` words of the landing pad that the pointer of a slot names
+  abbrev pub pad_run : (slot pads : ℕ) → Pointer → List Covering
+  pad_run slot pads (Far double word segment) =
+      run slot roles.Pad (number message (record { segment = segment; word = word })) pads
+  pad_run slot pads _ = []
+
+  -- the words that a visit of the slot at `at` covers, given the slot's target: first the landing pad, then the content
+  abbrev pub covers : Place → Result Target Fault → List Covering
+  covers at (Ok (targets.Content s start shape pads)) =
+      pad_run (number message at) pads (pointer_in message at.segment at.word)
+      ++ content_run (number message at) (number message (record { segment = s; word = start })) shape
+  covers at _ = []
+
+  -- the words that the visits cover, one visit after another
+  abbrev pub covered : List Visit → List Covering
+  covered [] = []
+  covered (pays at n ∷ vs) = covers at (target message at) ++ covered vs
+  covered (fails at e ∷ vs) = covered vs
+
+-- the root's slot, which the message itself covers
+abbrev pub whole : Covering
+whole = record { word = 0; slot = 0; role = roles.Root }
+
+-- all coverings of a message: the root's slot, and then the words that the visits of the walk cover
+abbrev pub coverings : List (List ℕ) → Bounds → List Covering
+coverings message limits = whole ∷ covered message (visits_within message limits)
+
+-- ---- what the coverings make of one word
+
+-- how often the word with the number `w` is covered
+abbrev pub times : List Covering → ℕ → ℕ
+times [] w = 0
+times (c ∷ cs) w = (if c.word == w then 1 else 0) + times cs w
+
+-- the first covering of the word with the number `w`, or `None` if nothing covers it
+abbrev pub first_of : List Covering → ℕ → Option Covering
+first_of [] w = None
+first_of (c ∷ cs) w = if c.word == w then Some c else first_of cs w
+
+-- the word that nothing covers
+abbrev pub unreached : Covered
+unreached = record { times = 0; slot = 0; role = roles.Unreached }
+
+-- the word that is covered `n` times, first by the given covering
+abbrev pub belongs : ℕ → Option Covering → Covered
+belongs n None = unreached
+belongs n (Some c) = record { times = n; slot = c.slot; role = c.role }
+
+-- what the coverings make of the word with the number `w`: its times, and what it is where it belongs to
+abbrev pub cover_at : List Covering → ℕ → Covered
+cover_at cs w = belongs (times cs w) (first_of cs w)

@@ -1,0 +1,3 @@
+pub mod inner
+pub mod Covers
+pub mod Cover

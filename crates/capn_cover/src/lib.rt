@@ -1,0 +1,16 @@
+//! The cover of a message: for each word of its segments, how often the visits of a walk cover it, to which visit it
+//! belongs, and what it is there.
+//!
+//! [`cover`] surveys a message within limits, and then visits each slot once more, in the order of the walk. A visit of
+//! a slot that leads to a struct or a list covers the words of its landing pad and then the words of the content. The
+//! root's slot is covered by the message itself, before all visits. A word belongs to the first that covers it.
+#![tactic(auto)]
+
+mod cover_visits;
+mod covered;
+mod message_cover;
+mod object_words;
+mod starts;
+
+pub use covered::{Covered, Role};
+pub use message_cover::cover;
