@@ -19,11 +19,12 @@
  *   - for a list of structs, the length, and the numbers of the first twenty structs */
 
 /* The command `fields lines` prints these numbers for a struct, in this order:
- *   - the fields of 1 bit whose offset in bits is a multiple of 5 below 256
- *   - for each width of 8, 16, 32 and 64 bits, the unsigned fields whose offset is a multiple of the width below 256
- *   - for each width of 8, 16, 32 and 64 bits, the signed fields at the same offsets
+ *   - the fields of 1 bit at the bit offsets 0, 5, 10 and so on, below 256
+ *   - for each width of 8, 16, 32 and 64 bits, the unsigned fields at all bit offsets below 256 that it divides
+ *   - for each of these widths, the signed fields at the same offsets
  *   - the number of pointers of the struct, and a number for the kind of each of its first four pointers
- * The default of field i of a width is i + 1, or -(i + 1) for a signed field, truncated to the width. */
+ * Within a width, fields are numbered from 0. The default of field number i is i + 1, or -(i + 1) for a signed field,
+ * truncated to the width. */
 #include "capn_fields.h"
 #include <inttypes.h>
 #include <stdio.h>

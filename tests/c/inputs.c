@@ -230,8 +230,8 @@ static void announced(void) {
     want("its offset", r.at, 2);
 }
 
-/* Passes more words than a message without a segment table may have. The call only counts the words. They can't be
- * read. */
+/* Passes more words than a message without a segment table may have. The memory of these words can't be read, so the
+ * call has to find the error by the number of words alone. */
 static void too_long(void) {
     size_t words = (1u << 28) + 2;
     capn_report r;

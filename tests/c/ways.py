@@ -24,7 +24,8 @@ def departure(value):
 
 
 def told(lines):
-    """Returns the answer for some lines of `capn explain`. Returns `?` if the bytes can't be read."""
+    """Returns the line that the C program has to print for a message, given the lines that `capn explain` printed for
+    it. Returns `?` if `capn explain` can't read the message."""
     values = dict(line.split(": ", 1) for line in lines if ": " in line)
     if "way" in values:
         return f"way {values['way']}"
