@@ -12,9 +12,9 @@ use std::test::Fail;
 
 /// A reader that gives its bytes in the first call, and fails in the next.
 #[derive(Drop)]
-struct Once<'a> {
-    bytes: &'a [u8],
-    is_over: bool,
+pub(crate) struct Once<'a> {
+    pub(crate) bytes: &'a [u8],
+    pub(crate) is_over: bool,
 }
 
 impl Read for Once<'_> {

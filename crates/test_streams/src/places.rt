@@ -15,7 +15,7 @@ use std::test::Fail;
 
 /// The service that writes three bytes for each message: its index, its offset, and the length of its frame.
 #[derive(Drop)]
-struct Places;
+pub(crate) struct Places;
 
 impl Service for Places {
     ghost use Rattle.capn_serve.specs.Fold.{never};
@@ -53,8 +53,8 @@ impl Service for Places {
 
 /// A reader that gives one byte at a time.
 #[derive(Drop)]
-struct Single<'a> {
-    bytes: &'a [u8],
+pub(crate) struct Single<'a> {
+    pub(crate) bytes: &'a [u8],
 }
 
 impl<'a> Read for Single<'a> {
