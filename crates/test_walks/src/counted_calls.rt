@@ -1,61 +1,13 @@
 //! Tests that count how often a message is read, for the calls that take a `Space` and no counter.
 
-ghost use Rattle.std.specs.Prelude.{◌≡◌};
-
+use crate::tally::Tally;
 use crate::words::bytes_of;
 use capn_canon::{canonical_into, canonical_length, canonical_of};
 use capn_diagnostics::explain_stop;
 use capn_stream::first;
 use capn_walk::{Entry, Limits, index_into, survey};
-use capn_words::{Place, Space};
 use std::alloc::Global;
-use std::cell::Cell;
 use std::test::Fail;
-
-/// A message that counts how often it is read. Bytes count as the words that they take.
-#[derive(Drop)]
-struct Asked<'s, S: Space> {
-    space: &'s S,
-    times: Cell<u64>,
-}
-
-impl<'s, S: Space> Asked<'s, S> {
-    /// Adds `times` to the count.
-    fn add(&self, times: u64) {
-        self.times.set(self.times.get().wrapping_add(times));
-    }
-
-    /// Returns the count, and resets it to zero.
-    fn taken(&self) -> u64 {
-        let times = self.times.get();
-        self.times.set(0);
-        times
-    }
-}
-
-impl<'s, S: Space> Space for Asked<'s, S> {
-    ghost message = { λ a. S.message a.space.now };
-
-    fn segments(&self) -> u32 {
-        self.add(1);
-        self.space.segments()
-    }
-
-    fn words(&self, segment: u32) -> Option<u32> {
-        self.add(1);
-        self.space.words(segment)
-    }
-
-    fn word(&self, at: Place) -> u64 {
-        self.add(1);
-        self.space.word(at)
-    }
-
-    fn bytes(&self, at: Place, len: usize) -> &[u8] {
-        self.add(len.div_ceil(8) as u64);
-        self.space.bytes(at, len)
-    }
-}
 
 /// Returns the pointer to a struct of two slots after the next `between` words.
 fn pointer(between: u64) -> u64 {
@@ -64,7 +16,7 @@ fn pointer(between: u64) -> u64 {
 
 /// Returns a frame of two segments with a chain of `levels + 1` structs of two slots. Both slots point to the next
 /// struct, or are null in the last. The root is a far pointer to a landing pad of one word.
-fn doubling(alloc: Global, levels: u8) -> Result<Vec<u8>, Fail> {
+pub(crate) fn doubling(alloc: Global, levels: u8) -> Result<Vec<u8>, Fail> {
     let mut words = Vec::new(alloc);
     words.push(0x1_0000_0001)?;
     words.push(3 + 2 * levels as u64)?;
@@ -85,10 +37,7 @@ fn times_asked(alloc: Global, bytes: &[u8], limits: Limits) -> Result<[u64; 5], 
     let Ok((message, _taken)) = first(alloc, bytes, 8_388_608) else {
         return Err(Fail::new("no frame"));
     };
-    let space = Asked {
-        space: &message,
-        times: Cell::new(0),
-    };
+    let space = Tally::of(&message);
     let mut room: [Entry; 0] = [];
     let mut out = [0u8; 64];
     let _surveyed = survey(alloc, &space, limits);
@@ -146,10 +95,7 @@ fn times_explained(alloc: Global, bytes: &[u8], limits: Limits) -> Result<(u64, 
     let Ok((message, _taken)) = first(alloc, bytes, 8_388_608) else {
         return Err(Fail::new("no frame"));
     };
-    let space = Asked {
-        space: &message,
-        times: Cell::new(0),
-    };
+    let space = Tally::of(&message);
     let Err(stopped) = survey(alloc, &space, limits) else {
         return Err(Fail::new("accepted"));
     };

@@ -169,7 +169,7 @@ fn each_entry_of_a_message(rt: HostRuntime) -> Result<(), Fail> {
 }
 
 /// The format of an index that keeps only the span of each entry.
-struct Spans;
+pub(crate) struct Spans;
 
 impl EntryForm for Spans {
     type Item = u32;

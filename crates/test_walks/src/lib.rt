@@ -4,7 +4,13 @@
 #![tactic(auto)]
 
 #[cfg(test)]
+mod counted_bare;
+#[cfg(test)]
+mod counted_bytes;
+#[cfg(test)]
 mod counted_calls;
+#[cfg(test)]
+mod counted_walks;
 #[cfg(test)]
 mod depths;
 #[cfg(test)]
@@ -14,7 +20,11 @@ mod indexes;
 #[cfg(test)]
 mod measures;
 #[cfg(test)]
+mod shared_lists;
+#[cfg(test)]
 mod steps;
+#[cfg(test)]
+mod tally;
 #[cfg(test)]
 mod targets;
 #[cfg(test)]
