@@ -9,6 +9,8 @@ mod bare;
 #[cfg(test)]
 mod frames;
 #[cfg(test)]
+mod groups;
+#[cfg(test)]
 mod packed;
 #[cfg(test)]
 mod pointers;

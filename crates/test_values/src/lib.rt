@@ -1,5 +1,5 @@
 //! Tests of values: how they are made, written as text, laid out and compared, and their canonical bytes in scratch
-//! memory.
+//! memory. Also of tasks on messages in any form.
 //!
 //! They are apart from the crates that they test, because a crate with tests is proved twice.
 #![tactic(auto)]
@@ -10,6 +10,8 @@ mod comparisons;
 mod layouts;
 #[cfg(test)]
 mod making;
+#[cfg(test)]
+mod message_tasks;
 #[cfg(test)]
 mod pointer_words;
 #[cfg(test)]
