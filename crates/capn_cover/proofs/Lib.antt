@@ -3,8 +3,11 @@ mod Runs
 mod LaidItems
 mod Rooms
 mod CoverAt
+mod Sums
 mod Visited
 mod Pads
 mod BelowSlots
 mod Whole
 mod WorkedCovers
+mod PlaceOf
+mod SameParts

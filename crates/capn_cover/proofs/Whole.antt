@@ -1,17 +1,18 @@
 -- The cover of an accepted message, made of the coverings of its root's slot and of all slots below it.
-use Rattle.std.proofs.Common.{◌≡◌, ℕ, ◌≤◌, List, ◌∷◌, length, get_or, replicate, ap, sym, ◌∙◌, arith}
+use Rattle.std.proofs.Common.{◌≡◌, ◌+◌, ℕ, ◌≤◌, List, ◌∷◌, length, get_or, replicate, ap, sym, ◌∙◌, arith}
 use Rattle.std.proofs.lemmas.List.{length-replicate}
 use Rattle.capn_words.specs.Message.{total}
 use Rattle.capn_value.specs.Cost.{base}
 use Rattle.capn_walk.specs.Visits.{Visit, visits}
-use Rattle.capn_walk.specs.Accepted.{AllPay, IsAccepted, paid_of, root, root_visits}
+use Rattle.capn_walk.specs.Accepted.{AllPay, IsAccepted, paid, paid_of, root, root_visits}
 use Rattle.capn_walk.specs.Limits.{Bounds}
 use Rattle.capn_cover.specs.declared.covered.Covered.{Covered}
 use Rattle.capn_cover.specs.Covers.{Covering, covered, coverings, cover_at, unreached, whole}
-use Rattle.capn_cover.specs.Cover.{IsCover}
+use Rattle.capn_cover.specs.Cover.{IsCover, all_times}
 use Rattle.capn_cover.specs.inner.Laid.{laid, cover_below}
 use Rattle.capn_cover.proofs.LaidItems.{laid-length}
 use Rattle.capn_cover.proofs.CoverAt.{all-laid}
+use Rattle.capn_cover.proofs.Sums.{all-laid-sum}
 use Rattle.capn_cover.proofs.Visited.{same-covers, few-covers, from-root}
 
 module _ (m : List (List ℕ)) (limits : Bounds) (accepted : IsAccepted m limits) where
@@ -36,14 +37,26 @@ module _ (m : List (List ℕ)) (limits : Bounds) (accepted : IsAccepted m limits
       let c = accepted.within.paid in
       omega arith
 
+  -- all words together are covered at most once for each word that is paid, and the root's slot once more
+  pub few-times : (words : List Covered)
+      → words ≡ laid m (whole ∷ cover_below m limits.depth root) (replicate (total m) unreached)
+      → all_times words ≤ 1 + paid m limits
+  few-times words e =
+      let a = few-covers m (base limits.tariff) limits.depth root in
+      let b = ap paid_of as-visits in
+      let c = all-laid-sum m (whole ∷ cover_below m limits.depth root) (total m) in
+      let d = ap all_times e in
+      omega arith
+
   pub is-cover : (words : List Covered)
-      → words ≡ laid (whole ∷ cover_below m limits.depth root) (replicate (total m) unreached) → IsCover m limits words
+      → words ≡ laid m (whole ∷ cover_below m limits.depth root) (replicate (total m) unreached)
+      → IsCover m limits words
   is-cover words e =
       let cs : List Covering = whole ∷ cover_below m limits.depth root in
       let n = length-replicate (total m) unreached in
       record {
         accepted = accepted;
-        each = ap length e ∙ laid-length cs (replicate (total m) unreached) ∙ n;
-        is = λ w h. ap (λ (xs : List Covered). get_or xs w unreached) e ∙ all-laid cs (total m) w h (omega arith)
-            ∙ ap (λ (ds : List Covering). cover_at ds w) as-covered;
+        each = ap length e ∙ laid-length m cs (replicate (total m) unreached) ∙ n;
+        is = λ w h. ap (λ (xs : List Covered). get_or xs w unreached) e ∙ all-laid m cs (total m) w h (omega arith)
+            ∙ ap (λ (ds : List Covering). cover_at m ds w) as-covered;
       }

@@ -1,7 +1,7 @@
 -- The words that the visits of a walk cover, in order. The root's slot is covered by the message itself, before all
 -- visits. (Our own.)
 use Rattle.std.specs.Prelude.{ℕ, zero, suc, ◌+◌, ◌-◌, ◌*◌, ◌==◌, List, [], ◌∷◌, ◌++◌, take}
-use Rattle.std.specs.Prelude.{Result, Ok, Option, Some, None, if◌then◌else◌}
+use Rattle.std.specs.Prelude.{Bool, false, ◌||◌, Result, Ok, if◌then◌else◌}
 use Rattle.capn_words.specs.Message.{total}
 use Rattle.capn_words.specs.declared.space.Place.{Place}
 use Rattle.capn_words.specs.declared.pointer.Pointer.{Pointer}
@@ -19,6 +19,7 @@ use Rattle.capn_walk.specs.Limits.{Bounds}
 use Rattle.capn_cover.specs.declared.covered.Covered.{Covered}
 use Rattle.capn_cover.specs.declared.covered.Role.{Role}
 use Rattle.capn_cover.specs.declared.covered.Role.TheVariants as roles
+use Rattle.capn_cover.specs.Parts.{differs}
 
 -- the number of the word at a place: how many words of the message lie before it
 abbrev pub number : List (List ℕ) → Place → ℕ
@@ -88,20 +89,22 @@ abbrev pub times : List Covering → ℕ → ℕ
 times [] w = 0
 times (c ∷ cs) w = (if c.word == w then 1 else 0) + times cs w
 
--- the first covering of the word with the number `w`, or `None` if nothing covers it
-abbrev pub first_of : List Covering → ℕ → Option Covering
-first_of [] w = None
-first_of (c ∷ cs) w = if c.word == w then Some c else first_of cs w
-
 -- the word that nothing covers
 abbrev pub unreached : Covered
-unreached = record { times = 0; slot = 0; role = roles.Unreached }
+unreached = record { times = 0; slot = 0; role = roles.Unreached; overlap = false }
 
--- the word that is covered `n` times, first by the given covering
-abbrev pub belongs : ℕ → Option Covering → Covered
-belongs n None = unreached
-belongs n (Some c) = record { times = n; slot = c.slot; role = c.role }
+module _ (message : List (List ℕ)) where
+  -- one of the coverings of the word with the number `w` is by another part than the slot's in the given role
+  abbrev pub is_overlap : (slot : ℕ) → Role → List Covering → (w : ℕ) → Bool
+  is_overlap slot role [] w = false
+  is_overlap slot role (c ∷ cs) w =
+      (if c.word == w then differs message slot role c.slot c.role else false) || is_overlap slot role cs w
 
--- what the coverings make of the word with the number `w`: its times, and what it is where it belongs to
-abbrev pub cover_at : List Covering → ℕ → Covered
-cover_at cs w = belongs (times cs w) (first_of cs w)
+  -- what the coverings make of the word with the number `w`: its first covering says where it belongs to and what it is
+  -- there
+  abbrev pub cover_at : List Covering → (w : ℕ) → Covered
+  cover_at [] w = unreached
+  cover_at (c ∷ cs) w =
+      if c.word == w
+      then (record { times = 1 + times cs w; slot = c.slot; role = c.role; overlap = is_overlap c.slot c.role cs w })
+      else cover_at cs w

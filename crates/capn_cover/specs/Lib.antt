@@ -1,3 +1,4 @@
 pub mod inner
+pub mod Parts
 pub mod Covers
 pub mod Cover

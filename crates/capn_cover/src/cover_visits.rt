@@ -34,7 +34,7 @@ fn cover_pads<S: Space>(
     requires leads { Leads (S.message space.now) at pads }
     requires room { HasRoom (length (pad_run (S.message space.now) slot pads
         (spec.pointer_in (S.message space.now) at.segment at.word))) cells.old }
-    ensures { cells.new ≡ laid
+    ensures { cells.new ≡ laid (S.message space.now)
         (pad_run (S.message space.now) slot pads (spec.pointer_in (S.message space.now) at.segment at.word)) cells.old }
 {
     let pointer = split(space.word(at));
@@ -45,7 +45,7 @@ fn cover_pads<S: Space>(
     } = pointer
     {
         let first = number_of(space, before, segment, word);
-        cover_run(cells, first, pads as u32, slot, Role::Pad);
+        cover_run(space, before, cells, first, pads as u32, slot, Role::Pad);
     }
 }
 
@@ -70,13 +70,13 @@ fn cover_object<S: Space>(
     requires leads { spec.target (S.message space.now) at ≡ Ok (targets.Content segment start shape pads) }
     requires room { HasRoom (length
         (covers (S.message space.now) at (Ok (targets.Content segment start shape pads)))) cells.old }
-    ensures { cells.new ≡ laid
+    ensures { cells.new ≡ laid (S.message space.now)
         (covers (S.message space.now) at (Ok (targets.Content segment start shape pads))) cells.old }
 {
     let slot = number_of(space, before, at.segment, at.word);
     let first = number_of(space, before, segment, start);
     cover_pads(space, before, cells, at, pads, slot);
-    cover_content(cells, first, shape, slot);
+    cover_content(space, before, cells, first, shape, slot);
 }
 
 /// Makes the visit of the slot at `at` and of all slots below it, at most `depth` objects deep: covers their words once
@@ -89,7 +89,7 @@ pub fn cover_slot<S: Space>(space: &S, before: &[u32], cells: &mut [Covered], at
     requires each { length cells.old ≡ total (S.message space.now) }
     requires place { IsPlace (S.message space.now) at }
     requires room { HasRoom (length (cover_below (S.message space.now) depth at)) cells.old }
-    ensures { cells.new ≡ laid (cover_below (S.message space.now) depth at) cells.old }
+    ensures { cells.new ≡ laid (S.message space.now) (cover_below (S.message space.now) depth at) cells.old }
 {
     if depth == 0 {
         return;
@@ -130,7 +130,8 @@ fn cover_object_slots<S: Space>(
     requires content { IsContent (S.message space.now) (record { segment = segment; word = start }) (extent shape) }
     requires fits { RowsFit shape }
     requires room { HasRoom (length (cover_of (S.message space.now) depth (slots segment start shape))) cells.old }
-    ensures { cells.new ≡ laid (cover_of (S.message space.now) depth (slots segment start shape)) cells.old }
+    ensures { cells.new ≡ laid (S.message space.now)
+        (cover_of (S.message space.now) depth (slots segment start shape)) cells.old }
 {
     match shape {
         Shape::Node { words, slots } => {
@@ -181,7 +182,7 @@ fn cover_slots<S: Space>(
     requires content { IsContent (S.message space.now) first count }
     requires room { HasRoom (length
         (cover_of (S.message space.now) depth (places first.segment first.word count))) cells.old }
-    ensures { cells.new ≡ laid
+    ensures { cells.new ≡ laid (S.message space.now)
         (cover_of (S.message space.now) depth (places first.segment first.word count)) cells.old }
 {
     for i in 0..count {
@@ -212,7 +213,7 @@ fn cover_row_slots<S: Space>(
     requires content { IsContent (S.message space.now) first (count * (words + slots)) }
     requires room { HasRoom (length
         (cover_of (S.message space.now) depth (row_places first.segment first.word words slots count))) cells.old }
-    ensures { cells.new ≡ laid
+    ensures { cells.new ≡ laid (S.message space.now)
         (cover_of (S.message space.now) depth (row_places first.segment first.word words slots count)) cells.old }
 {
     let mut next = first.word;

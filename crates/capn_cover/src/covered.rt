@@ -1,8 +1,7 @@
 //! One word of a cover, and its role.
 
-ghost use Rattle.std.specs.Prelude.{◌≡◌, ◌+◌, ◌<◌, ◌^◌};
+ghost use Rattle.std.specs.Prelude.{◌≡◌};
 ghost use Rattle.capn_cover.specs.Covers.{unreached};
-ghost use Rattle.capn_cover.specs.inner.Laid.{once_more};
 
 /// What a word is in the object or the landing pad to which it belongs.
 #[derive(Clone, Copy, Debug, PartialEq, Eq)]
@@ -35,6 +34,9 @@ pub struct Covered {
     pub slot: u32,
     /// What the word is there.
     pub role: Role,
+    /// Whether two that cover the word differ. They don't if both are objects with the same first word and the same
+    /// kind, sizes and counts, or both are the same landing pad.
+    pub overlap: bool,
 }
 
 impl Covered {
@@ -46,27 +48,7 @@ impl Covered {
             times: 0,
             slot: 0,
             role: Role::Unreached,
-        }
-    }
-
-    /// Returns the word `self` after it is covered once more, in the given role, by the visit of the slot with the
-    /// number `slot`.
-    #[inline(always)]
-    pub(crate) fn once_more(self, slot: u32, role: Role) -> Covered
-        requires { self.times + 1 < 2 ^ 32 }
-        ensures { result ≡ once_more slot role self }
-    {
-        if self.times == 0 {
-            Covered {
-                times: 1,
-                slot,
-                role,
-            }
-        } else {
-            Covered {
-                times: self.times + 1,
-                ..self
-            }
+            overlap: false,
         }
     }
 }

@@ -3,13 +3,15 @@
 //!
 //! [`cover`] surveys a message within limits, and then visits each slot once more, in the order of the walk. A visit of
 //! a slot that leads to a struct or a list covers the words of its landing pad and then the words of the content. The
-//! root's slot is covered by the message itself, before all visits. A word belongs to the first that covers it.
+//! root's slot is covered by the message itself, before all visits. A word belongs to the first that covers it, and is
+//! an overlap if something else covers it too.
 #![tactic(auto)]
 
 mod cover_visits;
 mod covered;
 mod message_cover;
 mod object_words;
+mod part;
 mod starts;
 
 pub use covered::{Covered, Role};

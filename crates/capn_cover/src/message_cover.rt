@@ -1,11 +1,11 @@
 //! The cover of a message that is accepted.
 
-ghost use Rattle.std.specs.Prelude.{◌≡◌, ◌⊎◌, ◌<◌, ◌+◌, ◌^◌, ◌∷◌, length, replicate, IfOk, IfErr};
+ghost use Rattle.std.specs.Prelude.{◌≡◌, ◌⊎◌, ◌<◌, ◌≤◌, ◌+◌, ◌^◌, ◌∷◌, length, replicate, IfOk, IfErr};
 ghost use Rattle.capn_words.specs.Message.{IsMessage, IsPlace, total};
 ghost use Rattle.capn_value.specs.Tree.{Tree};
-ghost use Rattle.capn_walk.specs.Accepted.{IsAccepted, IsValueOf, IsWalkRefused, root};
+ghost use Rattle.capn_walk.specs.Accepted.{IsAccepted, IsValueOf, IsWalkRefused, paid, root};
 ghost use Rattle.capn_target.specs.declared.target.Fault.TheVariants.{Memory};
-ghost use Rattle.capn_cover.specs.Cover.{IsCover};
+ghost use Rattle.capn_cover.specs.Cover.{IsCover, all_times};
 ghost use Rattle.capn_cover.specs.Covers.{whole, unreached};
 ghost use Rattle.capn_cover.specs.inner.Laid.{laid, cover_below};
 
@@ -17,14 +17,15 @@ use capn_walk::{Fault, Limits, Stopped, survey};
 use capn_words::{Place, Space, total_words};
 use std::alloc::{AllocError, Allocator};
 
-/// Finds for each word of the message `space` how often the visits of its walk cover it, to which visit it belongs and
-/// what it is there, if the message is accepted within `limits`.
+/// Finds for each word of the message `space` how often the visits of its walk cover it, to which visit it belongs,
+/// what it is there and whether something else covers it too, if the message is accepted within `limits`.
 ///
 /// A visit covers words if its slot leads to a struct or a list: first those of its landing pad, then those of the
 /// content. The root's slot is covered by the message itself, before all visits. A word belongs to the first that
 /// covers it. (Our own.)
 ///
-/// The errors are those of [`survey`], and `Memory`. `Memory` is returned only if an allocation on `alloc` was refused.
+/// The work is one step for each word that is covered, as often as it is. The errors are those of [`survey`], and
+/// `Memory`. `Memory` is returned only if an allocation on `alloc` was refused.
 ///
 /// Memory: 12 bytes for each word of the message, and while the call runs 4 bytes for each segment.
 pub fn cover<S: Space, A: Allocator + Copy>(
@@ -32,9 +33,11 @@ pub fn cover<S: Space, A: Allocator + Copy>(
     space: &S,
     limits: Limits,
 ) -> Result<Vec<Covered, A>, Stopped>
-    // If `result` is `Ok`, the message is accepted, and there is an item for each word: how often it is covered, and by
-    // what first.
+    // If `result` is `Ok`, the message is accepted, and there is an item for each word: how often it is covered, by
+    // what first, and whether something else covers it too.
     ensures found { IfOk result (λ words. IsCover (S.message space.now) limits words.items) }
+    // All words together are covered at most once for each word that the walk pays, and the root's slot once more.
+    ensures work { IfOk result (λ words. all_times words.items ≤ 1 + paid (S.message space.now) limits) }
     // An accepted message gives `Ok`, unless an allocation was refused. Any other error is the stop of the walk.
     ensures only { (v : Tree) → IsValueOf (S.message space.now) limits v → IfErr result (λ s. s.fault ≡ Memory) }
     ensures refused { IfErr result (λ s.
@@ -67,13 +70,13 @@ fn cover_accepted<S: Space, A: Allocator + Copy>(
     requires message { IsMessage (S.message space.now) }
     requires place { IsPlace (S.message space.now) root }
     requires few { 1 + length (cover_below (S.message space.now) depth root) < 2 ^ 32 }
-    ensures { IfOk result (λ words. words.items ≡ laid (whole ∷ cover_below (S.message space.now) depth root)
-        (replicate (total (S.message space.now)) unreached)) }
+    ensures { IfOk result (λ words. words.items ≡ laid (S.message space.now)
+        (whole ∷ cover_below (S.message space.now) depth root) (replicate (total (S.message space.now)) unreached)) }
 {
     let before = words_before(alloc, space)?;
     let total = total_words(space);
     let mut words = vec![in alloc; Covered::unreached(); total as usize]?;
-    cover_word(&mut words, 0, 0, Role::Root);
+    cover_word(space, &before, &mut words, 0, 0, Role::Root);
     cover_slot(space, &before, &mut words, Place::ROOT, depth);
     Ok(words)
 }

@@ -1,74 +1,158 @@
 //! The words of one object and of its landing pad, each of which one visit covers once.
 
-ghost use Rattle.std.specs.Prelude.{◌≡◌, ◌≤◌, ◌<◌, ◌+◌, ◌*◌, length};
-ghost use Rattle.capn_words.specs.Message.{most_words};
+ghost use Rattle.std.specs.Prelude.{◌≡◌, ◌≤◌, ◌<◌, ◌+◌, ◌*◌, ◌^◌, length};
+ghost use Rattle.capn_words.specs.Message.{IsMessage, most_words};
 ghost use Rattle.capn_target.specs.Shapes.{extent, RowsFit};
 ghost use Rattle.capn_cover.specs.Covers.{run, rows_run, content_run};
-ghost use Rattle.capn_cover.specs.inner.Laid.{laid, touched, HasRoom};
+ghost use Rattle.capn_cover.specs.inner.Laid as spec;
+ghost use Rattle.capn_cover.specs.inner.Laid.{laid, touched, CountsBefore, HasRoom};
 
 use crate::covered::{Covered, Role};
+use crate::part::differs;
 use capn_target::content_words;
 use capn_walk::Shape;
-use capn_words::Width;
+use capn_words::{Space, Width};
 
-/// Covers the word with the number `word` once more.
+/// Returns the word `cell` after it is covered once more, in the given `role`, by the visit of the slot with the number
+/// `slot`. Element `s` of `before` is the number of words before segment `s`.
 #[inline(always)]
-pub fn cover_word(cells: &mut [Covered], word: u32, slot: u32, role: Role)
+fn once_more<S: Space>(space: &S, before: &[u32], cell: Covered, slot: u32, role: Role) -> Covered
+    requires message { IsMessage (S.message space.now) }
+    requires counts { CountsBefore (S.message space.now) before.now }
+    requires room { cell.times + 1 < 2 ^ 32 }
+    ensures { result ≡ spec.once_more (S.message space.now) slot role cell }
+{
+    if cell.times == 0 {
+        return Covered {
+            times: 1,
+            slot,
+            role,
+            overlap: false,
+        };
+    }
+    let overlap = cell.overlap || differs(space, before, cell.slot, cell.role, slot, role);
+    Covered {
+        times: cell.times + 1,
+        overlap,
+        ..cell
+    }
+}
+
+/// Covers the word with the number `word` once more, by the visit of the slot with the number `slot`.
+#[inline(always)]
+pub fn cover_word<S: Space>(
+    space: &S,
+    before: &[u32],
+    cells: &mut [Covered],
+    word: u32,
+    slot: u32,
+    role: Role,
+)
+    requires message { IsMessage (S.message space.now) }
+    requires counts { CountsBefore (S.message space.now) before.now }
     requires within { word < length cells.old }
     requires room { HasRoom 1 cells.old }
-    ensures { cells.new ≡ touched (record { word = word; slot = slot; role = role }) cells.old }
+    ensures { cells.new ≡ touched (S.message space.now) (record { word = word; slot = slot; role = role }) cells.old }
 {
     let i = word as usize;
-    cells[i] = cells[i].once_more(slot, role);
+    cells[i] = once_more(space, before, cells[i], slot, role);
 }
 
 /// Covers `count` words from the number `first` on, each once more.
 #[inline(always)]
-pub fn cover_run(cells: &mut [Covered], first: u32, count: u32, slot: u32, role: Role)
+pub fn cover_run<S: Space>(
+    space: &S,
+    before: &[u32],
+    cells: &mut [Covered],
+    first: u32,
+    count: u32,
+    slot: u32,
+    role: Role,
+)
+    requires message { IsMessage (S.message space.now) }
+    requires counts { CountsBefore (S.message space.now) before.now }
     requires within { first + count ≤ length cells.old }
     requires few { length cells.old ≤ most_words }
     requires room { HasRoom count cells.old }
-    ensures { cells.new ≡ laid (run slot role first count) cells.old }
+    ensures { cells.new ≡ laid (S.message space.now) (run slot role first count) cells.old }
 {
     for i in 0..count {
-        cover_word(cells, first + i, slot, role);
+        cover_word(space, before, cells, first + i, slot, role);
     }
 }
 
 /// Covers the words of `count` rows from the number `first` on, each once more. Each row has `words` data words and
 /// then `slots` slots.
 #[inline(always)]
-fn cover_rows(cells: &mut [Covered], first: u32, count: u32, words: u16, slots: u16, slot: u32)
+fn cover_rows<S: Space>(
+    space: &S,
+    before: &[u32],
+    cells: &mut [Covered],
+    first: u32,
+    count: u32,
+    words: u16,
+    slots: u16,
+    slot: u32,
+)
+    requires message { IsMessage (S.message space.now) }
+    requires counts { CountsBefore (S.message space.now) before.now }
     requires within { first + count * (words + slots) ≤ length cells.old }
     requires few { length cells.old ≤ most_words }
     requires room { HasRoom (count * (words + slots)) cells.old }
-    ensures { cells.new ≡ laid (rows_run slot first words slots count) cells.old }
+    ensures { cells.new ≡ laid (S.message space.now) (rows_run slot first words slots count) cells.old }
 {
     let mut next = first;
     for row in 0..count {
-        cover_run(cells, next, words as u32, slot, Role::Data);
-        cover_run(cells, next + words as u32, slots as u32, slot, Role::Slot);
+        cover_run(space, before, cells, next, words as u32, slot, Role::Data);
+        cover_run(
+            space,
+            before,
+            cells,
+            next + words as u32,
+            slots as u32,
+            slot,
+            Role::Slot,
+        );
         next += words as u32 + slots as u32;
     }
 }
 
 /// Covers the words of an object of `shape` whose first word has the number `first`, each once more.
 #[inline(always)]
-pub fn cover_content(cells: &mut [Covered], first: u32, shape: Shape, slot: u32)
+pub fn cover_content<S: Space>(
+    space: &S,
+    before: &[u32],
+    cells: &mut [Covered],
+    first: u32,
+    shape: Shape,
+    slot: u32,
+)
+    requires message { IsMessage (S.message space.now) }
+    requires counts { CountsBefore (S.message space.now) before.now }
     requires fits { RowsFit shape }
     requires within { first + extent shape ≤ length cells.old }
     requires few { length cells.old ≤ most_words }
     requires room { HasRoom (extent shape) cells.old }
-    ensures { cells.new ≡ laid (content_run slot first shape) cells.old }
+    ensures { cells.new ≡ laid (S.message space.now) (content_run slot first shape) cells.old }
 {
     match shape {
         Shape::Node { words, slots } => {
-            cover_run(cells, first, words as u32, slot, Role::Data);
-            cover_run(cells, first + words as u32, slots as u32, slot, Role::Slot);
+            cover_run(space, before, cells, first, words as u32, slot, Role::Data);
+            cover_run(
+                space,
+                before,
+                cells,
+                first + words as u32,
+                slots as u32,
+                slot,
+                Role::Slot,
+            );
         }
         Shape::Many { width, count } => match width {
-            Width::Link => cover_run(cells, first, count, slot, Role::Slot),
+            Width::Link => cover_run(space, before, cells, first, count, slot, Role::Slot),
             _ => cover_run(
+                space,
+                before,
                 cells,
                 first,
                 content_words(width, count) as u32,
@@ -83,9 +167,17 @@ pub fn cover_content(cells: &mut [Covered], first: u32, shape: Shape, slot: u32)
             span,
         } => {
             let taken = count * (words as u32 + slots as u32);
-            cover_run(cells, first, 1, slot, Role::Tag);
-            cover_rows(cells, first + 1, count, words, slots, slot);
-            cover_run(cells, first + 1 + taken, span - taken, slot, Role::Slack);
+            cover_run(space, before, cells, first, 1, slot, Role::Tag);
+            cover_rows(space, before, cells, first + 1, count, words, slots, slot);
+            cover_run(
+                space,
+                before,
+                cells,
+                first + 1 + taken,
+                span - taken,
+                slot,
+                Role::Slack,
+            );
         }
     }
 }

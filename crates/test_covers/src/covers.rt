@@ -1,4 +1,4 @@
-//! Tests of the times, the slots and the roles of words.
+//! Tests of the times, the slots, the roles and the overlaps of words.
 
 use crate::words::bytes_of;
 use capn_cover::{Covered, Role, cover};
@@ -9,7 +9,20 @@ use std::test::Fail;
 
 /// Returns the word that is covered `times` times, first by the visit of the slot with the number `slot`.
 fn word(times: u32, slot: u32, role: Role) -> Covered {
-    Covered { times, slot, role }
+    Covered {
+        times,
+        slot,
+        role,
+        overlap: false,
+    }
+}
+
+/// Returns the word that two parts cover which differ, `times` times in all.
+fn overlap(times: u32, slot: u32, role: Role) -> Covered {
+    Covered {
+        overlap: true,
+        ..word(times, slot, role)
+    }
 }
 
 /// Returns the word that nothing covers.
@@ -131,7 +144,7 @@ fn rows_that_a_later_list_shares_and_slack(rt: HostRuntime) -> Result<(), Fail> 
         word(1, 0, Role::Slot),
         word(1, 1, Role::Tag),
         word(1, 1, Role::Data),
-        word(2, 1, Role::Data),
+        overlap(2, 1, Role::Data),
         word(1, 1, Role::Slack),
     ];
     assert!(rt; is_cover(rt.alloc(), &words, &want)?);
@@ -178,10 +191,76 @@ fn rows_of_slots(rt: HostRuntime) -> Result<(), Fail> {
         word(1, 0, Role::Tag),
         word(1, 0, Role::Data),
         word(1, 0, Role::Slot),
-        word(2, 0, Role::Data),
+        overlap(2, 0, Role::Data),
         word(1, 0, Role::Slot),
     ];
     assert!(rt; is_cover(rt.alloc(), &words, &want)?);
+    Ok(())
+}
+
+/// Two slots lead to one landing pad, and so to one struct.
+#[test]
+fn a_shared_landing_pad(rt: HostRuntime) -> Result<(), Fail> {
+    let words = [
+        0x3_0000_0001,
+        2,
+        0x2_0000_0000_0000,
+        0x1_0000_0002,
+        0x1_0000_0002,
+        0x1_0000_0000,
+        9,
+    ];
+    let want = [
+        word(1, 0, Role::Root),
+        word(1, 0, Role::Slot),
+        word(1, 0, Role::Slot),
+        word(2, 1, Role::Pad),
+        word(2, 1, Role::Data),
+    ];
+    assert!(rt; is_cover(rt.alloc(), &words, &want)?);
+    Ok(())
+}
+
+/// Lists with the same first word, of the same sizes or not; a struct that covers the root's slot; and a struct that
+/// covers its own landing pad.
+#[test]
+fn parts_that_differ(rt: HostRuntime) -> Result<(), Fail> {
+    // Two lists of 8 bytes at one word, and a list of 7 bytes there.
+    let shared = [
+        0x4_0000_0000,
+        0x2_0000_0000_0000,
+        0x42_0000_0005,
+        0x42_0000_0001,
+        1,
+    ];
+    let want = [
+        word(1, 0, Role::Root),
+        word(1, 0, Role::Slot),
+        word(1, 0, Role::Slot),
+        word(2, 1, Role::Numbers),
+    ];
+    assert!(rt; is_cover(rt.alloc(), &shared, &want)?);
+    let shorter = [
+        0x4_0000_0000,
+        0x2_0000_0000_0000,
+        0x42_0000_0005,
+        0x3a_0000_0001,
+        1,
+    ];
+    let want = [
+        word(1, 0, Role::Root),
+        word(1, 0, Role::Slot),
+        word(1, 0, Role::Slot),
+        overlap(2, 1, Role::Numbers),
+    ];
+    assert!(rt; is_cover(rt.alloc(), &shorter, &want)?);
+    // A struct of one word at word 0.
+    let itself = [0x1_0000_0000, 0x1_ffff_fffc];
+    assert!(rt; is_cover(rt.alloc(), &itself, &[overlap(2, 0, Role::Root)])?);
+    // A struct of one word, at its own landing pad.
+    let padded = [0x1_0000_0001, 1, 0x1_0000_0002, 0x1_ffff_fffc];
+    let want = [word(1, 0, Role::Root), overlap(2, 0, Role::Pad)];
+    assert!(rt; is_cover(rt.alloc(), &padded, &want)?);
     Ok(())
 }
 

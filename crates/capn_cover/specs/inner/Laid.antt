@@ -1,5 +1,6 @@
 -- Coverings that are laid into a list with one item for each word, one covering after another.
-use Rattle.std.specs.Prelude.{◌≡◌, ℕ, zero, suc, ◌+◌, ◌^◌, ◌<◌, ◌==◌, List, [], ◌∷◌, ◌++◌, length, take, set}
+use Rattle.std.specs.Prelude.{◌≡◌, ℕ, zero, suc, ◌+◌, ◌^◌, ◌<◌, ◌≤◌, ◌==◌, ◌||◌, false, List, [], ◌∷◌, ◌++◌}
+use Rattle.std.specs.Prelude.{length, take, set}
 use Rattle.std.specs.Prelude.{slice_index, slice_index_or, Result, Ok, Err, if◌then◌else◌}
 use Rattle.std.specs.List.{flat_map}
 use Rattle.capn_words.specs.Message.{total}
@@ -12,21 +13,25 @@ use Rattle.capn_target.specs.Target.{target}
 use Rattle.capn_walk.specs.View.{slots_below}
 use Rattle.capn_cover.specs.declared.covered.Covered.{Covered}
 use Rattle.capn_cover.specs.declared.covered.Role.{Role}
+use Rattle.capn_cover.specs.Parts.{differs}
 use Rattle.capn_cover.specs.Covers.{Covering, covers, unreached}
 
--- the word `x` after it is covered once more
-abbrev pub once_more : (slot : ℕ) → Role → Covered → Covered
-once_more slot role x =
-    if x.times == 0 then (record { times = 1; slot = slot; role = role }) else (record x { times = x.times + 1 })
+module _ (m : List (List ℕ)) where
+  -- the word `x` after it is covered once more
+  abbrev pub once_more : (slot : ℕ) → Role → Covered → Covered
+  once_more slot role x =
+      if x.times == 0
+      then (record { times = 1; slot = slot; role = role; overlap = false })
+      else (record x { times = x.times + 1; overlap = x.overlap || differs m x.slot x.role slot role })
 
--- the items after the covering `c` is laid into them
-abbrev pub touched : Covering → List Covered → List Covered
-touched c cells = set cells c.word (once_more c.slot c.role (slice_index_or cells c.word unreached))
+  -- the items after the covering `c` is laid into them
+  abbrev pub touched : Covering → List Covered → List Covered
+  touched c cells = set cells c.word (once_more c.slot c.role (slice_index_or cells c.word unreached))
 
--- the items after the coverings are laid into them, one after another
-abbrev pub laid : List Covering → List Covered → List Covered
-laid [] cells = cells
-laid (c ∷ cs) cells = laid cs (touched c cells)
+  -- the items after the coverings are laid into them, one after another
+  abbrev pub laid : List Covering → List Covered → List Covered
+  laid [] cells = cells
+  laid (c ∷ cs) cells = laid cs (touched c cells)
 
 -- no item is so often covered that `n` times more pass what 32 bits hold
 abbrev pub HasRoom : ℕ → List Covered → Type 0
@@ -36,6 +41,12 @@ HasRoom n cells = (w : ℕ) → (slice_index_or cells w unreached).times + n < 2
 pub record CountsBefore (m : List (List ℕ)) (before : List ℕ) : Type 0 where
   pub count : length before ≡ length m
   pub each : (s : ℕ) → s < length m → slice_index before s ≡ total (take s m)
+
+-- segment `s` is the last segment before which there are at most `n` words
+pub record IsLastBefore (before : List ℕ) (n s : ℕ) : Type 0 where
+  pub exists : s < length before
+  pub low : slice_index before s ≤ n
+  pub high : s + 1 < length before → n < slice_index before (s + 1)
 
 -- the slot at `at` leads to content, through a landing pad of `pads` words
 pub record Leads (m : List (List ℕ)) (at : Place) (pads : ℕ) : Type 0 where

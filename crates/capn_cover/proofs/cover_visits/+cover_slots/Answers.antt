@@ -46,7 +46,7 @@ cover_slot-returns-in-Content g t c =
     let found = targets.Content x.segment x.start x.shape x.pads in
     let e = sym c.resolve.ensures.exact ∙ c.in-Ok.is ∙ ap Ok x.is in
     let b = below-target m c.args.at c.args.depth found e c.if-depth-eq0.false in
-    laid-next _ (covers m c.args.at (Ok found)) (cover_of m (c.args.depth - 1) (slots x.segment x.start x.shape))
+    laid-next m _ (covers m c.args.at (Ok found)) (cover_of m (c.args.depth - 1) (slots x.segment x.start x.shape))
     c.args.cells.now _ _ b c.cover_object.ensures c.cover_object_slots.ensures
 
 pub cover_slot-cover_object-requires-clause-room : goal.cover_slot-cover_object-requires-clause-room
@@ -71,7 +71,7 @@ cover_slot-cover_object_slots-requires g t c κs within =
     let fits = inside.1 in
     let each = c.requires.each in
     let some = c.if-depth-eq0.false in
-    let room = room-second (cover_below m c.args.depth c.args.at) (covers m c.args.at (Ok found))
+    let room = room-second m (cover_below m c.args.depth c.args.at) (covers m c.args.at (Ok found))
     (cover_of m (c.args.depth - 1) (slots x.segment x.start x.shape)) c.args.cells.now _ b c.cover_object.ensures
     c.requires.room in
     search rules
@@ -83,7 +83,7 @@ cover_slots-cover_slot-requires g t c κs within =
     let w = c.args.first.word in
     let d = c.args.depth in
     let i = c.loop-i.i in
-    let room = room-part (slots_to m d s w c.args.count) (slots_to m d s w i) (cover_below m d (slot s (w + i)))
+    let room = room-part m (slots_to m d s w c.args.count) (slots_to m d s w i) (cover_below m d (slot s (w + i)))
     (cover_of m d (places s (w + i + 1) (c.args.count - suc i))) c.args.cells.now c.loop-i.cells
     (slots-split m d s w i c.args.count c.loop-i-test.true) c.loop-i.invariant c.requires.room in
     search rules
@@ -95,7 +95,7 @@ cover_slots-loop-i-preserved g t c =
     let w = c.args.first.word in
     let d = c.args.depth in
     let i = c.loop-i.i in
-    laid-next _ (slots_to m d s w i) (cover_below m d (slot s (w + i))) c.args.cells.now c.loop-i.cells _
+    laid-next m _ (slots_to m d s w i) (cover_below m d (slot s (w + i))) c.args.cells.now c.loop-i.cells _
     (slots-next m d s w i) c.loop-i.invariant c.cover_slot.ensures
 
 pub cover_row_slots-cover_slots-requires : goal.cover_row_slots-cover_slots-requires
@@ -110,7 +110,7 @@ cover_row_slots-cover_slots-requires g t c κs within =
     let v = c.loop-row.invariant in
     let n = v.next in
     let all = row-inside w c.args.count i (a + b) c.loop-row.next _ c.loop-row-test.true n c.requires.content.within in
-    let room = room-part (rows_to m d s w a b c.args.count) (rows_to m d s w a b i) (row_slots m d s w a b i)
+    let room = room-part m (rows_to m d s w a b c.args.count) (rows_to m d s w a b i) (row_slots m d s w a b i)
     (cover_of m d (row_places s (w + i * (a + b) + a + b) a b (c.args.count - suc i))) c.args.cells.now
     c.loop-row.cells (rows-split m d s w a b i c.args.count c.loop-row-test.true) v.cells c.requires.room in
     let here = rw (← n) at room in
@@ -133,6 +133,6 @@ cover_row_slots-loop-row-preserved g t c =
     let one = rw n at c.cover_slots.ensures in
     record {
       next = omega arith;
-      cells = laid-next _ (rows_to m d s w a b i) (row_slots m d s w a b i) c.args.cells.now c.loop-row.cells _
+      cells = laid-next m _ (rows_to m d s w a b i) (row_slots m d s w a b i) c.args.cells.now c.loop-row.cells _
           (rows-next m d s w a b i) v.cells one;
     }

@@ -17,12 +17,12 @@ decreases-cover_object_slots g l = 4 * l.depth + 3
 
 abbrev pub invariant-cover_slots-loop-i : goal.invariant-cover_slots-loop-i
 invariant-cover_slots-loop-i g l =
-    l.cells
-    ≡ laid (cover_of (g.S.Space.message l.space) l.depth (places l.first.segment l.first.word l.i)) l.initial.cells
+    let m = g.S.Space.message l.space in
+    l.cells ≡ laid m (cover_of m l.depth (places l.first.segment l.first.word l.i)) l.initial.cells
 
 abbrev pub invariant-cover_row_slots-loop-row : goal.invariant-cover_row_slots-loop-row
 invariant-cover_row_slots-loop-row g l = record {
   next : l.next ≡ l.first.word + l.row * (l.words + l.slots);
-  cells : l.cells ≡ laid (cover_of (g.S.Space.message l.space) l.depth
+  cells : l.cells ≡ laid (g.S.Space.message l.space) (cover_of (g.S.Space.message l.space) l.depth
       (row_places l.first.segment l.first.word l.words l.slots l.row)) l.initial.cells;
 }

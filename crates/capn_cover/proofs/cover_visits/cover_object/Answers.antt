@@ -50,7 +50,7 @@ cover_content-requires-clause-room g c =
     let first = number m (record { segment = c.args.segment; word = c.args.start }) in
     let s = c.number_of-slot.ensures in
     let pads = rw s at c.cover_pads.ensures in
-    let h = room-second (covers m at (Ok (targets.Content c.args.segment c.args.start c.args.shape c.args.pads)))
+    let h = room-second m (covers m at (Ok (targets.Content c.args.segment c.args.start c.args.shape c.args.pads)))
     (pad_run m (number m at) c.args.pads (pointer_in m at.segment at.word))
     (content_run (number m at) first c.args.shape) c.args.cells.now _ refl pads c.requires.room in
     let n = content-length (number m at) first c.args.shape i.1 in
@@ -64,6 +64,6 @@ returns g c =
     let f = c.number_of-first.ensures in
     let pads = rw s at c.cover_pads.ensures in
     let content = rw (s, f) at c.cover_content.ensures in
-    laid-next _ (pad_run m (number m at) c.args.pads (pointer_in m at.segment at.word))
+    laid-next m _ (pad_run m (number m at) c.args.pads (pointer_in m at.segment at.word))
     (content_run (number m at) (number m (record { segment = c.args.segment; word = c.args.start })) c.args.shape)
     c.args.cells.now _ _ refl pads content

@@ -4,7 +4,7 @@ use Rattle.capn_cover.specs.inner.Laid.{laid}
 use Rattle.capn_cover.proofs.object_words.cover_rows.Given as goal
 
 abbrev pub invariant-loop-row : goal.invariant-loop-row
-invariant-loop-row l = record {
+invariant-loop-row g l = record {
   next : l.next ≡ l.first + l.row * (l.words + l.slots);
-  cells : l.cells ≡ laid (rows_run l.slot l.first l.words l.slots l.row) l.initial.cells;
+  cells : l.cells ≡ laid (g.S.Space.message l.space) (rows_run l.slot l.first l.words l.slots l.row) l.initial.cells;
 }

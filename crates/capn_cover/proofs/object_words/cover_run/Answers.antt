@@ -5,12 +5,14 @@ use Rattle.capn_cover.proofs.Rooms.{run-room, laid-next}
 use Rattle.capn_cover.proofs.object_words.cover_run.Goals as goal
 
 pub cover_word-requires-clause-room : goal.cover_word-requires-clause-room
-cover_word-requires-clause-room c =
-    run-room c.args.slot c.args.role c.args.first c.loop-i.i c.args.count c.args.cells.now c.loop-i.cells
+cover_word-requires-clause-room g c =
+    let m = g.S.Space.message c.args.space.now in
+    run-room m c.args.slot c.args.role c.args.first c.loop-i.i c.args.count c.args.cells.now c.loop-i.cells
     c.loop-i-test.true c.loop-i.invariant c.requires.room
 
 pub loop-i-preserved : goal.loop-i-preserved
-loop-i-preserved c =
-    laid-next _ (run c.args.slot c.args.role c.args.first c.loop-i.i)
+loop-i-preserved g c =
+    let m = g.S.Space.message c.args.space.now in
+    laid-next m _ (run c.args.slot c.args.role c.args.first c.loop-i.i)
     ((record { word = c.args.first + c.loop-i.i; slot = c.args.slot; role = c.args.role }) ∷ []) c.args.cells.now
     c.loop-i.cells _ (run-next c.args.slot c.args.role c.args.first c.loop-i.i) c.loop-i.invariant c.cover_word.ensures

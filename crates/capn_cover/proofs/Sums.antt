@@ -1,0 +1,40 @@
+-- How often all words together are covered: at most once for each covering.
+use Rattle.std.proofs.Common.{inl, inr, ℕ, ◌+◌, ◌≤◌, List, [], ◌∷◌, length}
+use Rattle.std.proofs.Common.{get_or, replicate, ap, arith}
+use Rattle.std.proofs.lemmas.Bool.{cases_lt}
+use Rattle.std.proofs.lemmas.List.{set_past}
+use Rattle.std.proofs.lemmas.List.Sums.{sum_by-set}
+use Rattle.std.proofs.lemmas.List.Folds.{sum_by-replicate}
+use Rattle.capn_cover.specs.declared.covered.Covered.{Covered}
+use Rattle.capn_cover.specs.Covers.{Covering, unreached}
+use Rattle.capn_cover.specs.Cover.{all_times}
+use Rattle.capn_cover.specs.inner.Laid.{once_more, touched, laid}
+use Rattle.capn_cover.proofs.LaidItems.{times-more}
+
+abbrev times_of : Covered → ℕ
+times_of c = c.times
+
+module _ (m : List (List ℕ)) where
+  module _ (c : Covering) (cells : List Covered) where
+    abbrev once : Covered
+    once = once_more m c.slot c.role (get_or cells c.word unreached)
+
+    -- one covering adds at most one
+    one-more : all_times (touched m c cells) ≤ all_times cells + 1
+    one-more = elim (cases_lt c.word (length cells)) [
+      | inl h ↦ let e = sum_by-set times_of cells c.word once unreached h in
+          let t = times-more m c.slot c.role (get_or cells c.word unreached) in
+          omega arith
+      | inr h ↦ let e = ap all_times (set_past cells c.word once h) in omega arith
+    ]
+
+  laid-sum : (cs : List Covering) (cells : List Covered) → all_times (laid m cs cells) ≤ all_times cells + length cs
+  laid-sum [] cells = omega arith
+  laid-sum (c ∷ cs) cells = let a = one-more c cells in let b = laid-sum cs (touched m c cells) in omega arith
+
+  -- coverings that are laid into items that nothing covers
+  pub all-laid-sum : (cs : List Covering) (n : ℕ) → all_times (laid m cs (replicate n unreached)) ≤ length cs
+  all-laid-sum cs n =
+      let a = laid-sum cs (replicate n unreached) in
+      let b = sum_by-replicate times_of n unreached in
+      omega arith
