@@ -720,8 +720,8 @@ class Message:
         return found
 
     def close(self) -> None:
-        """Releases the bytes. The message raises a `ValueError` from then on, and so does an object of it that is asked
-        for what it refers to, or for an element.
+        """Releases the bytes. `root` and `at` raise a `ValueError` from then on, and so does an object of the message
+        that is asked for what it refers to, or for an element. `paid` and `visits` stay readable.
 
         With `in_place=True` each `words` and `view` that the package made is released, so that it raises a
         `ValueError` too, and the bytes may be changed again. A slice or a cast that the caller made of such a view is

@@ -357,13 +357,15 @@ class Closed(unittest.TestCase):
     def test_what_was_copied_is_never_held(self):
         data = bytearray(self.MESSAGE)
         message = capn.read(data)
-        words = message.root.words
+        root, words = message.root, message.root.words
         data.append(0)
         data[:] = bytes(len(data))
         self.assertEqual((words[0], message.root.slots[0].text()), (5, "abc"))
+        paid = message.paid
         message.close()
-        self.assertEqual(words[0], 5)
-        self.assertRaises(ValueError, lambda: message.root)
+        self.assertEqual((words[0], root.words[0], root.uint(64, 0), message.paid), (5, 5, 5, paid))
+        for use in lambda: message.root, lambda: message.at(0), lambda: root.slots[0], lambda: root.slot(0):
+            self.assertRaises(ValueError, use)
 
     def test_another_object_still_uses_a_view(self):
         data = bytearray(self.MESSAGE)
