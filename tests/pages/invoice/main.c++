@@ -4,6 +4,7 @@
 //     beside long MESSAGE    which readers take a message of more words than the traversal limit
 #include "invoice.capnp.h"
 #include <capnp/serialize.h>
+#include <cstdint>
 #include <cstring>
 #include <fstream>
 #include <iostream>
