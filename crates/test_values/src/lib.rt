@@ -5,6 +5,8 @@
 #![tactic(auto)]
 
 #[cfg(test)]
+mod allowed_steps;
+#[cfg(test)]
 mod comparisons;
 #[cfg(test)]
 mod layouts;

@@ -1,20 +1,19 @@
 //! Tests of canonical bytes in each form, with just enough words of scratch, and with one fewer.
 
-ghost use Rattle.std.specs.Prelude.{◌≤◌, length};
-ghost use Rattle.capn_scratch.specs.Work.{work_of_bytes};
+ghost use Rattle.std.specs.Prelude.{◌≤◌};
 
 use capn_canon::{Form, Refusal, canonicalise};
 use capn_pack::pack;
-use capn_scratch::{AskedBytes, BytesTask, FormRefusal, canonical_into_form, canonical_into_form_of};
+use capn_scratch::{FormRefusal, canonical_into_form};
 use capn_walk::Limits;
 use std::alloc::Global;
 use std::test::Fail;
 
 /// The greatest number of words of scratch that a test lends.
-const MOST: usize = 192;
+pub(crate) const MOST: usize = 192;
 
 /// Returns a frame of `last + 1` segments. Its root is a struct of one word, by a landing pad in the last segment.
-fn frame(alloc: Global, last: u8) -> Result<Vec<u8>, Fail> {
+pub(crate) fn frame(alloc: Global, last: u8) -> Result<Vec<u8>, Fail> {
     let mut bytes = Vec::new(alloc);
     bytes.extend_from_slice(&(last as u32).to_le_bytes())?;
     for segment in 0..last {
@@ -50,7 +49,7 @@ fn answer(
 }
 
 /// The canonical bytes of each frame, followed by the former content of the buffer.
-const WRITTEN: [u8; 24] = [
+pub(crate) const WRITTEN: [u8; 24] = [
     0, 0, 0, 0, 1, 0, 0, 0, 7, 0, 0, 0, 0, 0, 0, 0, 0xbb, 0xbb, 0xbb, 0xbb, 0xbb, 0xbb, 0xbb, 0xbb,
 ];
 
@@ -68,6 +67,9 @@ fn a_frame_takes_a_word_for_each_of_many_ends(rt: HostRuntime) -> Result<(), Fai
             return Err(Fail::new("no canonical bytes"));
         };
         assert_eq!(rt; canonical.bytes.as_slice(), &WRITTEN[..16]);
+        if need > MOST {
+            return Err(Fail::new("too many words of scratch"));
+        }
         let told = answer(Form::Stream, bytes.as_slice(), limits, need, 24);
         assert_eq!(rt; told, Ok((16, WRITTEN)));
         if need > 0 {
@@ -84,6 +86,9 @@ fn a_packed_frame_takes_its_words_and_those_of_its_table(rt: HostRuntime) -> Res
     for (last, need) in FRAMES {
         let bytes = frame(rt.alloc(), last)?;
         let words = bytes.len() / 8;
+        if need > MOST || words == 0 || words > MOST - need {
+            return Err(Fail::new("too many words of scratch"));
+        }
         let Ok(text) = pack(rt.alloc(), bytes.as_slice()) else {
             return Err(Fail::new("not packed"));
         };
@@ -192,63 +197,4 @@ fn refusals_come_in_order(rt: HostRuntime) {
         24,
     );
     assert!(rt; matches!(unread, Err(FormRefusal::Frame(_))));
-}
-
-/// Bytes that allow at most `steps` steps.
-#[derive(Drop)]
-struct Allowance<'s> {
-    bytes: &'s [u8],
-    steps: u64,
-}
-
-impl<'s> AskedBytes for Allowance<'s> {
-    ghost use Rattle.std.specs.Prelude.{◌≤◌};
-
-    ghost bytes = { λ a. a.bytes.now };
-
-    ghost allows = { λ a n. n ≤ a.steps };
-
-    fn ask_bytes<T: BytesTask>(self, task: T, scratch: &mut [[u8; 8]], out: &mut [u8]) -> T::Told {
-        self.bytes.ask_bytes(task, scratch, out)
-    }
-}
-
-/// Returns the result for `bytes` that allow exactly the steps that `canonical_into_form_of` requires. With one step
-/// fewer, this function is not proved.
-fn answer_within(
-    form: Form,
-    bytes: &[u8],
-    limits: Limits,
-    out: &mut [u8],
-) -> Result<usize, FormRefusal>
-    requires { length bytes.now ≤ 1024 }
-{
-    let mut scratch = [[0xaa; 8]; MOST];
-    let steps = 3 * bytes.len() as u64 + 22 * MOST as u64 + 54 * (limits.budget() as u64 + 1) + 4;
-    let written = canonical_into_form_of(form, Allowance { bytes, steps }, limits, &mut scratch, out)?;
-    Ok(written.length)
-}
-
-#[test]
-fn bytes_that_allow_just_enough_steps_are_answered(rt: HostRuntime) -> Result<(), Fail> {
-    let limits = Limits::usual();
-    let bytes = frame(rt.alloc(), 1)?;
-    let Ok(text) = pack(rt.alloc(), bytes.as_slice()) else {
-        return Err(Fail::new("not packed"));
-    };
-    let forms = [
-        (Form::Bare, &WRITTEN[..16]),
-        (Form::Stream, bytes.as_slice()),
-        (Form::Packed, text.as_slice()),
-    ];
-    for (form, bytes) in forms {
-        if bytes.len() > 1024 {
-            return Err(Fail::new("too many bytes"));
-        }
-        let mut out = [0xbb; 24];
-        let told = answer_within(form, bytes, limits, &mut out);
-        assert_eq!(rt; told, Ok(16));
-        assert_eq!(rt; out, WRITTEN);
-    }
-    Ok(())
 }
