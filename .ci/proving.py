@@ -15,7 +15,7 @@ BUILD = os.path.join(TOP, "build")
 # The crate of the library for C, and the log of its build. `rt ci` proves the crate, but doesn't build its archive.
 LIBRARY = "capn_c"
 LIBRARY_LOG = os.path.join(BUILD, "library.log")
-# Crates without tests that `make test` runs, but doesn't prove. Only `make test-all` proves them.
+# These crates have no tests. `make test` runs them, but doesn't prove them. Only `make test-all` proves them.
 UNPROVED = ("bench",)
 
 

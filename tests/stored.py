@@ -69,10 +69,10 @@ def all_cases():
 
 
 def asked(cases, before=""):
-    """Returns the input for a program that answers these cases. The text `before` stands before each call."""
+    """Returns the input with which a program answers the given cases. The text `before` stands before each call."""
     return "".join(f"{case.name}\n{before}{case.call}\n" for case in cases)
 
 
 def answered(cases):
-    """Returns the output that a program has to give for these cases."""
+    """Returns the output that a program has to give for the given cases."""
     return "".join(f"{case.name}\n{case.answer}\n" for case in cases)

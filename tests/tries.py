@@ -19,8 +19,8 @@ sys.path.insert(0, os.path.join(TOP, ".ci"))
 import proving
 
 LOG = "build/tries.log"
-# The greatest number of GiB that one run of `rt try` uses. This includes its compiler and the check of names that runs
-# beside it.
+# The most memory that one run of `rt try` uses, in GiB. This includes the memory of its compiler and of the check of
+# names that runs beside it.
 MEMORY = 2
 # The number of test cases that one run of a program gets. If a case ends the program, the remaining cases of the run
 # aren't tried, so the number is small.
@@ -125,7 +125,7 @@ def shown(text, at=0):
 
 
 def differences(cases, out):
-    """Yields the errors in the output of a program that has answered these cases."""
+    """Yields the errors in the output of a program that has answered the given cases."""
     lines = out.split("\n")
     for at, case in enumerate(cases):
         name, got = (lines[2 * at:2 * at + 2] + ["", ""])[:2]
@@ -170,7 +170,7 @@ def cases_job(crate, cases):
 
 
 def imported(text, crates):
-    """Yields the names that a file imports from these crates, and the names that it writes as CRATE::NAME."""
+    """Yields the names that a file imports from the given crates, and those that it writes as CRATE::NAME."""
     for crate, one, several in re.findall(r"^(?:pub )?use (\w+)::(?:([\w:]+)|\{([^}]*)\});", text, re.M):
         if crate in crates:
             yield from re.findall(r"\w+", several or one)
@@ -201,8 +201,9 @@ def exported():
 
 @functools.cache
 def words_of_tests():
-    """Returns the names that each test file uses, by the path of the file. For a crate's test file, these are the names
-    that it imports from the crates of the product (capn*). For a file of tests/c, they are all words of the file."""
+    """Returns a dictionary: a key is the path of a test file, and its value has the names that the file uses. For a
+    crate's test file, these are the names that it imports from the crates of the product (capn*). For a file of
+    tests/c, they are all words of the file."""
     found = {}
     for crate in proving.crates():
         if crate.startswith(("test_", "conformance_")) or crate in product() and tests_of(crate):
@@ -223,7 +224,7 @@ def naming(function):
 
 
 def jobs_naming(files):
-    """Yields the jobs of these test files. The jobs run the tests of the files' crates, and the test cases that the
+    """Yields the jobs of the given test files. The jobs run the tests of the files' crates, and the test cases that the
     files answer."""
     for crate in sorted({file.split("/")[1] for file in files}):
         if tests_of(crate):
@@ -281,8 +282,9 @@ def nearest(crate, names, tried):
 
 
 def calls_reaching(crate, names):
-    """Returns the first program with test cases that test a crate, and the calls of these cases. If the modules of some
-    calls name the crate, returns these calls. Otherwise returns the calls whose modules use the crate indirectly."""
+    """Finds the first program whose test cases test a crate. Returns the program, and the calls of these cases. They
+    are the calls whose modules name the crate. If there are none, they are the calls whose modules use the crate
+    indirectly."""
     for one in stored.CRATES:
         found = dict(crates_of_calls(one))
         if crate == one or crate in names[one] and crate not in set().union(*found.values()):

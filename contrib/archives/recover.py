@@ -32,7 +32,7 @@ FAULT = re.compile(rb"capn: message \d+ at (\d+): (.*)")
 # Matches the beginning of a possible segment table. The table announces at most 4,096 segments, and its first segment
 # isn't empty. The table may begin at any byte, since some bytes may be lost.
 TABLE = re.compile(rb"(?=.[\0-\x0f]\0\0(?!\0{4}))", re.DOTALL)
-# One process of `capn` checks at most this many rows of messages, or about this many bytes.
+# One process of `capn` checks at most MOST_ROWS rows of messages, and not much more than MOST_BYTES bytes.
 MOST_ROWS, MOST_BYTES = 1 << 12, 1 << 24
 
 

@@ -83,7 +83,8 @@ def nested(inner: bytes) -> bytes:
 
 
 def sized(message: bytes, words: int) -> bytes:
-    """Returns a message of one segment, with a table that announces this many words."""
+    """Changes the segment table of a message of one segment, so that it announces `words` words. Returns the changed
+    message."""
     return message[:4] + struct.pack("<I", words) + message[8:]
 
 
@@ -174,8 +175,8 @@ def texted(text: str) -> bytes:
 
 
 def search() -> None:
-    """Tests search.sh. It searches for texts that some messages have, for a text that no message has, and for a text
-    that more messages have than fit into one list of numbers. It also searches archives with rejected messages."""
+    """Tests search.sh. It searches for texts that some messages have, and for a text that no message has. One text is
+    in so many messages that their numbers don't fit into one list. Some archives have rejected messages."""
     ada, grace, without = texted("Ada"), texted('Grace "Hopper"'), canonical(5)
     Path("archive").write_bytes(ada + without + grace + ada)
     see(shell("search.sh", "archive", "0", "Ada") == (ada + ada, "", 0), "messages with Ada")
@@ -192,8 +193,8 @@ def search() -> None:
 
 
 def differences() -> None:
-    """Tests differences.sh on archives with the same values, with other values, with messages that only one archive
-    has, and with rejected messages."""
+    """Tests differences.sh on pairs of archives: with equal values, with values that differ, with messages that only
+    one of the two has, and with rejected messages."""
     five, same = framed([2 << 32, 5, 0]), framed([1 << 32, 5])
     others = {n: framed([1 << 32, n]) for n in (6, 7, 8, 9)}
 

@@ -109,7 +109,7 @@ def frames(part: Part, kept: list[Message], is_canonical: bool) -> bytes:
 
 
 class Choice:
-    """Chooses the first of all messages with the same value. Takes one part after the other, and counts the
+    """Of all messages with the same value, chooses the first. Takes one part after the other, and counts the
     messages."""
 
     def __init__(self) -> None:
@@ -118,7 +118,7 @@ class Choice:
         self.offset = 0
 
     def of(self, part: Part, messages: list[Message]) -> list[Message]:
-        """Returns the messages of the next part that are kept."""
+        """Takes the messages of the next part, and returns those that are kept."""
         kept = []
         for number, message in enumerate(messages, self.report.messages + 1):
             if message.refusal:
@@ -139,7 +139,7 @@ def tasks(client: Client, *call: Any, **options: Any) -> list[Future]:
 
 
 def dedupe(client: Client, paths: list[str], out: BinaryIO, most: int, is_canonical: bool) -> Report:
-    """Writes the messages of these files without duplicates, in the order of the files. Of messages with the same
+    """Writes the messages of the given files without duplicates, in the order of the files. Of messages with the same
     value, only the first is written."""
     parts = [part for found in tasks(client, cut, paths, most=most) for part in found.result()]
     choice = Choice()

@@ -13,7 +13,7 @@ from pathlib import Path
 
 
 def framed(*segments: list[int]) -> bytes:
-    """Returns a message that consists of these segments, after its segment table."""
+    """Returns a message: a segment table, and after it the given segments."""
     table = struct.pack(f"<{len(segments) + 1}I", len(segments) - 1, *map(len, segments))
     contents = b"".join(struct.pack(f"<{len(words)}Q", *words) for words in segments)
     return table + bytes(-len(table) % 8) + contents
@@ -43,7 +43,7 @@ def in_two_segments(number: int) -> bytes:
 
 
 def message(source: random.Random, at: int, values: int) -> bytes:
-    """Returns the message with this number in the archive."""
+    """Returns the message that has the given number in the archive."""
     if at % 5000 == 1000:
         return framed([1 << 32 | 9 << 2])
     if at % 5000 == 3000:

@@ -386,8 +386,8 @@ static void streams() {
     want("the cut one", thrown<capn::refusal>([&] { reader.next(); }) == "message 2 at 32: frame: Cut");
 }
 
-/* Tests readers whose function returns a wrong number. The reader doesn't report the mistake as an error of the
- * message, and reads no byte that the function didn't write. */
+/* Tests readers whose function returns a wrong number of bytes. The reader must not report the mistake as an error of
+ * the message, and must not read a byte that the function didn't write. */
 static void readers() {
     /* On its first call, the function writes the segment table. On its second call, it returns a number that is too
      * large, such as the -1 of a system call that failed. */
@@ -692,8 +692,8 @@ static void fields() {
 }
 
 /* If the data section or the pointer section is zero in every struct of a list, the canonical bytes leave this section
- * out. A reader may read such a list as numbers or as pointers. It gets the same zeros or nulls as from the original
- * list. */
+ * out. A reader may read the list as numbers or as pointers. From the canonical bytes, it gets the same zeros or nulls
+ * as from the original message. */
 static void canonical_lists() {
     const auto all = [](const capn::numbers<std::uint16_t> &numbers) {
         return std::vector<std::uint16_t>(numbers.begin(), numbers.end());

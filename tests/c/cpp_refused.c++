@@ -1,9 +1,10 @@
 // The programs in this file test that a wrong use of capn.hpp doesn't compile, and that right programs compile.
 //
 // Each number of the macro CASE adds a wrong program. It would read bytes after the object that owns them is destroyed,
-// or it confuses two numbers. A compiler has to reject this program. The line of a case begins with a word and a colon,
-// and the compiler's error has to contain this word. Only clang warns about the cases of `dangling`. Without CASE, the
-// file has only the right programs. `tests/c/languages` compiles each case.
+// or it takes one number for another, such as a number of words for a number of bytes. A compiler has to reject this
+// program. The line of a case begins with a word and a colon, and the compiler's error has to contain this word. Only
+// clang warns about the cases of `dangling`. Without CASE, the file has only the right programs. `tests/c/languages`
+// compiles each case.
 #include "capn.hpp"
 #ifdef WITH_KJ
 #include "capn_kj.hpp"

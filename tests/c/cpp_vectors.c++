@@ -84,8 +84,8 @@ std::string checked(const capn::checked &it, const capn_figures &figures) {
     return "paid " + std::to_string(it.paid) + ", visits " + std::to_string(it.visits);
 }
 
-/* Returns the result of a call on these bytes. If the bytes are a stream with a valid segment table, the same call on
- * the stream's segments has to return the same result. */
+/* Returns the result of a call on the given bytes. If they are a stream with a valid segment table, the call is also
+ * made on the stream's segments, and has to return the same result. */
 template <class Call> std::string both(capn::bytes message, capn::form form, const capn::limits &limits, Call call) {
     const std::string told = answered([&] { return call(message, form); });
     if (form != capn::form::stream) return told;

@@ -20,10 +20,11 @@
 
 /* The command `fields lines` prints these numbers for a struct, in this order:
  *   - the fields of 1 bit at the bit offsets 0, 5, 10 and so on, below 256
- *   - for each width of 8, 16, 32 and 64 bits, the unsigned fields at all bit offsets below 256 that it divides
- *   - for each of these widths, the signed fields at the same offsets
+ *   - for each width of 8, 16, 32 and 64 bits, an unsigned field at each bit offset below 256 that is a multiple of the
+ *     width
+ *   - for each of these widths, a signed field at each of the same offsets
  *   - the number of pointers of the struct, and a number for the kind of each of its first four pointers
- * Within a width, fields are numbered from 0. The default of field number i is i + 1, or -(i + 1) for a signed field,
+ * The fields of each width are numbered from 0. The default of field number i is i + 1, or -(i + 1) for a signed field,
  * truncated to the width. */
 #include "capn_fields.h"
 #include <inttypes.h>
@@ -353,7 +354,7 @@ static int show_stream(const char *as) {
     return failed != 0;
 }
 
-/* Reads the field `x @0 :UInt64 = 7` from a struct of this many words. The first word of the struct is `stored`. */
+/* Reads the field `x @0 :UInt64 = 7` from a struct of `words` words. The first word of the struct is `stored`. */
 static uint64_t of_words(uint16_t words, uint64_t stored) {
     const capn_entry entry = {0, 0, 1, words, 0, CAPN_KIND_STRUCT};
     capn_record record;

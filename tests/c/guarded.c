@@ -38,8 +38,8 @@ static uint64_t draw(void) {
 }
 static uint32_t any(uint32_t below) { return (uint32_t)(draw() >> 32) % below; }
 
-/* Returns the last or the first `size` bytes of some pages. Pages that can't be accessed lie before and after them. For
- * a size of 0, sometimes returns null. */
+/* Returns the first or the last `size` bytes of a block of pages. The page before the block and the page after it can't
+ * be accessed. For a size of 0, sometimes returns null. */
 static uint8_t *part(uint8_t *start, size_t size) {
     if (!size && !any(3)) return NULL;
     return any(3) ? at_end(start, size) : start;

@@ -1,5 +1,6 @@
-/* Tests each call of capn.h with enough memory and with bad input. Bad inputs are empty bytes, numbers out of range,
- * buffers of each size, lengths without the announced bytes, and hostile messages. */
+/* Tests each call of capn.h with enough memory and with bad input. The bad inputs are empty bytes, numbers out of
+ * range, segment tables that announce more bytes than there are, and hostile messages. Buffers of each size are tried,
+ * too. */
 #define TEST "inputs"
 #include "wanted.h"
 

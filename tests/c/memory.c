@@ -224,7 +224,7 @@ static void at_depth(uint32_t most, size_t depth, uint32_t wanted) {
     wants("index, 65 segments", indexed, &more, wanted == CAPN_OK ? 2 : 1, wanted);
 }
 
-/* Tests calls that return before they store anything, so that they need no memory. Their inputs are an empty input, a
+/* Tests calls that return before they store anything. These calls need no memory. Their inputs are an empty input, a
  * length that isn't a multiple of 8, packed bytes whose first group is truncated or too long, and a segment table that
  * is truncated or announces too much. */
 static void unread(void) {

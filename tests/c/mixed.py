@@ -14,7 +14,7 @@ from pathlib import Path
 
 REFERENCE = Path(__file__).resolve().parents[1] / "reference"
 SEED = 20260
-# The number of bits of an element, by the kind of the list.
+# For each kind of list, the number of bits of an element.
 BITS = [0, 1, 8, 16, 32, 64]
 TEXTS = [b"\0", b"abc\0", "grün\0".encode(), b"\xff\xfe\0", b"no zero", b"a\0b\0"]
 
@@ -71,8 +71,8 @@ def add(words, rng, depth):
 
 
 def fill(words, rng, places, depth):
-    """Sets the pointers at some places of a segment. Each pointer becomes null, a capability, or a pointer to a new
-    object."""
+    """Writes a pointer at each of the given places of a segment. The pointer is null, a capability, or a pointer to a
+    new object."""
     for place in places:
         kind = rng.random()
         if kind < 0.15:

@@ -28,8 +28,8 @@ static void texts(const char *version) {
             want("two texts", strcmp(capn_status_text(all[i]), capn_status_text(all[j])) != 0, 1);
 }
 
-/* Writes a message with segments of these sizes, and returns the message's length. The bytes after the segment table
- * are 1, 2, 3 and so on. */
+/* Writes a message with segments of the given sizes, and returns the message's length. The bytes after the segment
+ * table are 1, 2, 3 and so on. */
 static size_t frame(uint8_t *out, const uint32_t *sizes, uint32_t count) {
     size_t table = 8 * (count / 2 + 1), words = 0;
     memset(out, 0, table);
@@ -50,9 +50,9 @@ static void is_first(const char *what, const uint8_t *bytes, size_t size, capn_s
     want("no more", r.at | r.paid | r.visits | r.segment | r.word, 0);
 }
 
-/* Passes each prefix of messages of one to five segments to capn_first, aligned to 8 bytes or not. At first the call
- * reports that it needs 8 bytes, then the length of the segment table, and then the length of the message. If the
- * message is complete, with or without bytes after it, the call reports the message's length. */
+/* Passes each prefix of messages of one to five segments to capn_first. The address of the prefix is aligned to 8 bytes
+ * or not. At first the call reports that it needs 8 bytes, then the length of the segment table, and then the length of
+ * the message. If the message is complete, with or without bytes after it, the call reports the message's length. */
 static void beginnings(void) {
     static const uint32_t sizes[5] = {2, 0, 3, 1, 4};
     uint8_t bytes[160];
@@ -107,7 +107,8 @@ static void make_words(void) {
 }
 
 /* Passes each prefix of the packed bytes to capn_unpack_some, with each size of buffer. The call has to write a prefix
- * of the words. The packed bytes that the call took have to unpack to the written bytes. Nothing else may change. */
+ * of the words. The packed bytes that the call took have to unpack to the written bytes. No other byte of the buffer
+ * may change. */
 static void some(void) {
     for (size_t size = 0; size <= text_size; size++)
         for (size_t room = 0; room <= sizeof words + 9; room += room < 64 ? 1 : 7) {

@@ -37,7 +37,7 @@ static void judge(struct input *in) {
     in->status = capn_canonical(form, in->bytes, in->size, limits, in->canonical, room, &in->report);
 }
 
-/* Returns the status that capn_same must return for these two inputs. Sets the expected report and the expected
+/* Returns the status that capn_same must return for the two given inputs. Sets the expected report and the expected
  * `which`. */
 static capn_status expected(const struct input *a, const struct input *b, uint32_t *which, capn_report *report) {
     *which = a->status == CAPN_OK && b->status != CAPN_OK;

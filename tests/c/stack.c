@@ -1,6 +1,7 @@
 /* Measures the stack that each call needs. It fills the stacks of threads with a pattern, and finds how much of the
  * pattern is left. The messages are chains of objects as deep as the limit allows. They have one segment, two segments,
- * or more segments than a call reads without an allocation. The program fails if a call needs more than a bound. */
+ * or more segments than a call reads without an allocation. The program fails if a call needs more stack than its
+ * bound. */
 
 /* The arguments are the bounds: stack BASE OTHERS SHOW INDEX SAME. Every call may need BASE bytes. The other arguments
  * are the bytes that a call may need in addition for each level of depth. SHOW is for capn_show, INDEX for capn_index,

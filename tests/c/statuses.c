@@ -138,7 +138,7 @@ static void reading(void) {
 }
 
 /* Passes packed bytes that unpack to more words than one message with the longest segment table may have. Then passes
- * more words than a message without a table may have. The call can't read any of these words. */
+ * more words than a message without a table may have. The memory of these last words can't be accessed. */
 static void too_long(void) {
     const capn_limits one = limits_of(1, 1, 1, CAPN_STRICT);
     uint8_t zeros[18];
@@ -181,8 +181,8 @@ static void called(void) {
 }
 
 /* Makes calls while every allocation fails. Packed bytes give CAPN_MEMORY, as do a stream of 65 segments and the calls
- * that hash, pack and unpack. The canonical bytes and the index of a message in one or two segments need no memory. The
- * digest of canonical bytes needs no memory either. */
+ * that hash, pack and unpack. For a message in one or two segments, the calls for the canonical bytes and for the index
+ * succeed, because they don't allocate. The call for a digest succeeds if the message itself is canonical. */
 static void without_memory(void) {
     const uint8_t many[272] = {64, 0, 0, 0, 1}, two[24] = {1, 0, 0, 0, 1}, packed[9] = {0x10, 1, 0, 0};
     const uint8_t loose[16] = {0, 0, 0, 0, 1};

@@ -111,7 +111,7 @@ static uint64_t word_at(const uint8_t *bytes, size_t word) {
 }
 
 /* Compares the result of capn_departure with capn_survey. If the message has one segment, also tests the first word
- * that differs. */
+ * that differs from the canonical bytes. */
 static void compare(const struct input *in, const capn_departed *d) {
     capn_figures f;
     capn_report r;

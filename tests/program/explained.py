@@ -42,8 +42,9 @@ class Explanation(model.Walk):
         self.begin, self.table, self.limits = begin, table, limits
         self.way, self.holder, self.refused, self.asked = [], None, None, None
         self.capability_way = None
-        # `within` describes the object that holds the next pointers: its path, its first pointer, and a text. `shape`
-        # has the path to an object and, for a list of structs, the first word of its structs.
+        # `within` is about the object whose pointers are read next. It has the path to this object, the place of its
+        # first pointer, and a text that describes it. `shape` has the path to the current object. If this object is a
+        # list of structs, `shape` also has the place of its first struct.
         self.within = self.shape = None
         try:
             super().__init__(segments, **limits)

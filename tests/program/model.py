@@ -56,7 +56,7 @@ def first_frame(data, at, most):
 
 def unpacked(data, most=None):
     """Returns the words that the complete groups of packed bytes unpack to. Also returns the offset of a truncated
-    group, or None. Raises an error if a group exceeds the maximum of words."""
+    group, or None. Raises an error if the groups unpack to more than `most` words."""
     out, at = bytearray(), 0
     while at < len(data):
         tag, begun = data[at], at
@@ -88,8 +88,8 @@ def unpacked(data, most=None):
 
 
 def packed(data):
-    """Packs whole words, and returns the packed bytes. Each run of zero words or of unpacked words is as long as
-    possible."""
+    """Packs whole words, and returns the packed bytes. Each run of zero words is as long as possible, and so is each
+    run of words that packing copies unchanged."""
     words, text, at = [data[begin:begin + 8] for begin in range(0, len(data), 8)], bytearray(), 0
     while at < len(words):
         word = words[at]

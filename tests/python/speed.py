@@ -62,7 +62,8 @@ def way(data):
 
 
 def cut(message):
-    """Returns a message of one segment that lacks its last word. The segment table is changed to fit."""
+    """Removes the last word of a message of one segment, and changes the segment table to fit. Returns the shorter
+    message."""
     return message[:4] + (len(message) // 8 - 2).to_bytes(4, "little") + message[8:-8]
 
 
@@ -80,8 +81,8 @@ def streamed(**options):
 
 
 def of_words(count):
-    """Returns a message with a segment of `count` words. Its root is a struct, whose words are small numbers and texts
-    in turn."""
+    """Returns a message with a segment of `count` words. Its root is a struct without pointers. A small number and the
+    bytes of a text take turns as the words of the struct."""
     segment = [count - 1 << 32, *((at, int.from_bytes(b"abcdefg\0", "little"))[at % 2] for at in range(count - 1))]
     return b"".join(word.to_bytes(8, "little") for word in [count << 32, *segment])
 

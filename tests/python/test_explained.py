@@ -94,7 +94,7 @@ def input_of(source):
 
 class AsExplained(unittest.TestCase):
     def compare(self, data, form, limits, told, found):
-        """Makes all calls on one message, and counts the different results in the dictionary `found`."""
+        """Makes all calls on one message. Counts in the dictionary `found` how often each result came."""
         if told.get("accepted"):
             departure = capn.departure(data, form, limits)
             self.assertEqual(told["canonical"], "yes" if departure is None else f"no: {departure}")
@@ -157,8 +157,8 @@ class AsExplained(unittest.TestCase):
                     self.assertEqual(stop_of(refusal), stop_of(refused))
                     ways.add(refusal.way)
                     if refused.name == "TooManyWords":
-                        # If the segments come from an iterator, a call takes no more segments than it needs in order to
-                        # exceed the limit. So the call may report fewer words.
+                        # If the segments come from an iterator, a call stops at the segment with which the words exceed
+                        # the limit. So it may report fewer words than all segments have.
                         self.assertEqual(of_iterator.name, refused.name)
                         self.assertTrue(limits.message_words < of_iterator.at <= refused.at)
                     else:

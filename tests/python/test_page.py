@@ -119,8 +119,8 @@ class Page(unittest.TestCase):
         for numbers in "0100000010000000", "0100000012000000", "0100000013000000", "0100000014000000":
             self.assertEqual(self.run_on(children(numbers + "0500000000000000"), read),
                              (0, "7 nobody\nnobody\nnobody\n"))
-        # These messages have errors: a text without its last zero byte, a text that isn't UTF-8, and objects of another
-        # kind than the program expects. Others have bytes after the message, or are too deep.
+        # Each of these inputs has one error: a text without its last zero byte, a text that isn't UTF-8, an object of
+        # another kind than the program expects, bytes after the message, or too many levels.
         for message, why in (
             (TEXT.replace(b"\x22", b"\x1a"), "the last byte of a text is zero"),
             (TEXT.replace(b"abc", b"\xffbc"), "'utf-8' codec can't decode byte 0xff"),

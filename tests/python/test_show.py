@@ -85,8 +85,8 @@ class Shown(unittest.TestCase):
                 self.assertEqual(ran(line[1:], data), (wrote.stdout, wrote.stderr.decode(), wrote.returncode))
 
     def test_a_part_is_shown_as_the_whole_is(self):
-        # The Python package dumps a part of a message, and the C library dumps a whole message. `capn.show` has to
-        # return the same dump for a message object, for its root and for its bytes.
+        # The C library dumps a whole message. The Python package itself dumps a part of a message, such as its root.
+        # `capn.show` has to return the same dump for a message object, for its root and for its bytes.
         source, shown = random.Random(9), 0
         for _ in range(1000):
             data = archives.framed(archives.segments_of(source))

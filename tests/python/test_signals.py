@@ -101,7 +101,8 @@ class EachCall(unittest.TestCase):
         yield lambda: Peeking([data[:9], data[9:11], data[11:]])
 
     def each(self, data, make, wanted):
-        """Reads all kinds of files, and raises the exception after every call in turn. Every message has to come."""
+        """Reads each kind of file many times. In each run, the exception is raised after a different number of calls.
+        Every message has to be returned."""
         with tempfile.TemporaryDirectory() as folder:
             for number, file_of in enumerate(self.files(data, folder)):
                 with self.subTest(file=number):

@@ -8,8 +8,8 @@ import capn
 CRATES = Path(__file__).resolve().parents[2] / "crates"
 CALLS = re.compile(
     r"(plain )?(canonicalise|is_canonical|survey|pack|unpack) .*|run \d+ hash --form (bare|stream) (?!--).*"
-    # Matches a test case with a packed stream only if the stream has one message: the digest of one message is a line
-    # of 65 bytes.
+    # Matches a test case with a packed stream only if its output is a line of 65 bytes. This line is one digest, so the
+    # stream has only one message.
     r"|run \d+ hash --form packed (?!--)[^|]*\|status 0, [0-9a-f]{130}"
 )
 
@@ -46,7 +46,8 @@ def hashed(data, form):
 
 
 def parted(data):
-    """Splits a stream, and yields its messages. The last item is the rest of the stream, which may not be a message."""
+    """Splits a stream, and yields its messages. The last item is the rest of the stream, which need not be a
+    message."""
     while data:
         end = len(data)
         try:
@@ -86,7 +87,8 @@ class Stored(unittest.TestCase):
         self.assertGreater(len(answered), 500)
         for case, wanted in answered:
             # There are two differences between the stored results and those of the library. The stored result of a
-            # check ends with the capability, and a stored error of unpacking lacks the prefix `packed: `.
+            # check says at its end whether the message has a capability. A stored error of unpacking lacks the prefix
+            # `packed: `.
             wanted = re.sub(r", (no capability|capability \d+)$", "", wanted)
             wanted = re.sub(r"^(Cut|TooLong) at", r"packed: \g<0>", wanted)
             with self.subTest(case=case):

@@ -27,7 +27,7 @@ static std::mt19937_64 source;
 
 static unsigned below(unsigned most) { return unsigned(source() % most); }
 
-// Returns a number without the bits that don't fit into an element of this kind of list.
+// Returns a number without the bits that don't fit into an element of the given kind of list.
 static uint64_t cut(Kind kind, uint64_t number) {
   switch (kind) {
     case VOIDS: return 0;
@@ -39,8 +39,8 @@ static uint64_t cut(Kind kind, uint64_t number) {
   }
 }
 
-// Returns a random value of this kind. More than half of its words are zero, and more than half of its pointers are
-// null.
+// Returns a random value of the given kind. More than half of its words are zero, and more than half of its pointers
+// are null.
 static Value valueOf(Kind kind, unsigned depth) {
   Value made;
   made.kind = kind;
