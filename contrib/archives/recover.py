@@ -203,9 +203,9 @@ class Archive:
         return 0
 
     def between(self, bad: Message, good: int) -> Iterator[Span]:
-        """Yields the bytes from a bad message up to the next good message. If the segment tables lead from the bad
-        message exactly to the good message, each message between the two begins where it should. Such a message is kept
-        if it is accepted, even if it isn't like the messages of the sample."""
+        """Yields the bytes from a bad message up to the next message that is like the sample. If the segment tables
+        lead from the one exactly to the other, it is known where each message between them begins. Then an accepted
+        message between them is kept, even if it isn't like the sample."""
         end = bad.begin
         with closing(listed(self.path, bad.begin)) as found:
             for message in found:

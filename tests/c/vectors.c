@@ -94,9 +94,9 @@ static capn_status unpacked(const void *at, uint8_t *out, size_t room, capn_repo
     return capn_unpack(call->bytes, call->size, call->most, out, room, report);
 }
 
-/* Prints the result of a run of `capn hash`, as the calls of the library give it. The result is the status, the output
- * in hexadecimal, and the error. The output has the digests of the messages of a stream, or the digest of one message
- * that is packed or has no segment table. */
+/* Does what `capn hash` does by calls of the library, and prints the result that `capn hash` has to have: the status,
+ * the output in hexadecimal, and the error. The output has the digests of the messages of a stream, or the digest of
+ * one message that is packed or has no segment table. */
 static void hashed(const struct call *call) {
     char *lines = calloc(call->size + 1, 65);
     size_t lines_length = 0, taken;
