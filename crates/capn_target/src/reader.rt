@@ -2,11 +2,11 @@
 //!
 //! A function that gets a [`CountedSpace`] in place of a `Space` can read the message only by the calls of
 //! `CountedSpace`, each of which counts. A condition on [`Reads`] therefore bounds the reads of the function, whatever
-//! the function returns. It is proved that each read is counted. The fields are private to this file, no other ledger
-//! fits the type, and no call returns a slice or a `Space`. [`PaidBytes`] are read once, and an [`OnlySegment`] is read
-//! by calls that count in the ledger of the message. Work on a copy of what was read is not counted. The turns of a
-//! loop are counted only if the author of the loop calls [`Reads::tick`]. A loop that omits the call is accepted, and
-//! its turns are then unbounded.
+//! the function returns. The fields are private to this file, no other ledger fits the type, and no call returns a
+//! slice or a `Space`. That a call of this file reads no more than it counts is not proved: the code of this file shows
+//! it. [`PaidBytes`] are read once, and an [`OnlySegment`] is read by calls that count in the ledger of the message.
+//! Work on a copy of what was read is not counted. The turns of a loop are counted only if the author of the loop calls
+//! [`Reads::tick`]. A loop that omits the call is accepted, and its turns are then unbounded.
 
 ghost use Rattle.std.specs.Prelude.{◌≡◌, ◌≢◌, ◌+◌, ◌/◌, ◌<◌, ◌≤◌, [], ◌∷◌, length, IfSome, IfNone};
 ghost use Rattle.capn_words.specs.Message.{IsMessage, IsPlace, IsRange, word_at, words_of, bytes_at};
