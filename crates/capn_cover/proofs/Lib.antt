@@ -7,6 +7,10 @@ mod Sums
 mod Visited
 mod Pads
 mod BelowSlots
+mod Marks
+mod MarksTo
+mod SlotPlaces
+mod Belonging
 mod Whole
 mod WorkedCovers
 mod PlaceOf

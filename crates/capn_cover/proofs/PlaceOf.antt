@@ -7,8 +7,8 @@ use Rattle.std.proofs.lemmas.List.Sums.{sum_by-cons}
 use Rattle.capn_words.specs.Message.{segment_at, total}
 use Rattle.capn_words.specs.declared.space.Place.{Place}
 use Rattle.capn_words.proofs.shared.Choices.{pick}
-use Rattle.capn_cover.specs.Parts.{place_from}
-use Rattle.capn_cover.specs.inner.Laid.{CountsBefore, IsLastBefore}
+use Rattle.capn_cover.specs.Numbers.{place_from, CountsBefore}
+use Rattle.capn_cover.specs.inner.Laid.{IsLastBefore}
 use Rattle.capn_cover.proofs.Before.{next}
 
 -- the place of word `w` of segment `s`, or `None`

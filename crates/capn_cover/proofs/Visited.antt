@@ -21,7 +21,8 @@ use Rattle.capn_walk.specs.Visits.{Visit, pays, fails, price, slots, visits, vis
 use Rattle.capn_walk.specs.Accepted.{paid_of, AllPay, root, may_be_root, visits_at_root, root_visits}
 use Rattle.capn_walk.proofs.shared.Costs.{all-front, all-back, paid-append}
 use Rattle.capn_cover.specs.declared.covered.Role.TheVariants as roles
-use Rattle.capn_cover.specs.Covers.{Covering, number, pad_run, content_run, covers, covered}
+use Rattle.capn_cover.specs.Numbers.{number}
+use Rattle.capn_cover.specs.Covers.{Covering, pad_run, content_run, covers, covered}
 use Rattle.capn_cover.specs.inner.Laid.{below, cover_below}
 use Rattle.capn_cover.proofs.Runs.{run-length, content-length}
 

@@ -1,5 +1,5 @@
 -- The cover of an accepted message, made of the coverings of its root's slot and of all slots below it.
-use Rattle.std.proofs.Common.{◌≡◌, ◌+◌, ℕ, ◌≤◌, List, ◌∷◌, length, get_or, replicate, ap, sym, ◌∙◌, arith}
+use Rattle.std.proofs.Common.{◌≡◌, ◌+◌, ℕ, ◌≤◌, List, ◌∷◌, length, replicate, ap, sym, ◌∙◌, arith}
 use Rattle.std.proofs.lemmas.List.{length-replicate}
 use Rattle.capn_words.specs.Message.{total}
 use Rattle.capn_value.specs.Cost.{base}
@@ -10,6 +10,8 @@ use Rattle.capn_cover.specs.declared.covered.Covered.{Covered}
 use Rattle.capn_cover.specs.Covers.{Covering, covered, coverings, cover_at, unreached, whole}
 use Rattle.capn_cover.specs.Cover.{IsCover, all_times}
 use Rattle.capn_cover.specs.inner.Laid.{laid, cover_below}
+use Rattle.capn_cover.specs.inner.Marked.{marked, AreMarked}
+use Rattle.capn_cover.proofs.Belonging.{marked-cover, marked-times}
 use Rattle.capn_cover.proofs.LaidItems.{laid-length}
 use Rattle.capn_cover.proofs.CoverAt.{all-laid}
 use Rattle.capn_cover.proofs.Sums.{all-laid-sum}
@@ -37,26 +39,29 @@ module _ (m : List (List ℕ)) (limits : Bounds) (accepted : IsAccepted m limits
       let c = accepted.within.paid in
       omega arith
 
+  -- the items once all coverings are laid into them
+  abbrev items : List Covered
+  items = laid m (whole ∷ cover_below m limits.depth root) (replicate (total m) unreached)
+
   -- all words together are covered at most once for each word that is paid, and the root's slot once more
-  pub few-times : (words : List Covered)
-      → words ≡ laid m (whole ∷ cover_below m limits.depth root) (replicate (total m) unreached)
-      → all_times words ≤ 1 + paid m limits
-  few-times words e =
+  pub few-times : (words : List Covered) → AreMarked m items words → all_times words ≤ 1 + paid m limits
+  few-times words h =
       let a = few-covers m (base limits.tariff) limits.depth root in
       let b = ap paid_of as-visits in
       let c = all-laid-sum m (whole ∷ cover_below m limits.depth root) (total m) in
-      let d = ap all_times e in
+      let d = marked-times m items words h in
       omega arith
 
-  pub is-cover : (words : List Covered)
-      → words ≡ laid m (whole ∷ cover_below m limits.depth root) (replicate (total m) unreached)
-      → IsCover m limits words
-  is-cover words e =
+  pub is-cover : (words : List Covered) → AreMarked m items words → IsCover m limits words
+  is-cover words h =
       let cs : List Covering = whole ∷ cover_below m limits.depth root in
+      let l = laid-length m cs (replicate (total m) unreached) in
       let n = length-replicate (total m) unreached in
       record {
         accepted = accepted;
-        each = ap length e ∙ laid-length m cs (replicate (total m) unreached) ∙ n;
-        is = λ w h. ap (λ (xs : List Covered). get_or xs w unreached) e ∙ all-laid m cs (total m) w h (omega arith)
+        each = h.count ∙ l ∙ n;
+        is = λ w k. h.each w (omega arith)
+            ∙ ap (marked m w) (all-laid m cs (total m) w k (omega arith))
+            ∙ marked-cover m cs w
             ∙ ap (λ (ds : List Covering). cover_at m ds w) as-covered;
       }

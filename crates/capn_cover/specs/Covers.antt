@@ -1,8 +1,7 @@
 -- The words that the visits of a walk cover, in order. The root's slot is covered by the message itself, before all
 -- visits. (Our own.)
-use Rattle.std.specs.Prelude.{ℕ, zero, suc, ◌+◌, ◌-◌, ◌*◌, ◌==◌, List, [], ◌∷◌, ◌++◌, take}
-use Rattle.std.specs.Prelude.{Bool, false, ◌||◌, Result, Ok, if◌then◌else◌}
-use Rattle.capn_words.specs.Message.{total}
+use Rattle.std.specs.Prelude.{ℕ, zero, suc, ◌+◌, ◌-◌, ◌*◌, ◌==◌, List, [], ◌∷◌, ◌++◌}
+use Rattle.std.specs.Prelude.{Bool, true, false, ◌&&◌, ◌||◌, Result, Ok, if◌then◌else◌}
 use Rattle.capn_words.specs.declared.space.Place.{Place}
 use Rattle.capn_words.specs.declared.pointer.Pointer.{Pointer}
 use Rattle.capn_words.specs.declared.pointer.Pointer.TheVariants.{Far}
@@ -19,11 +18,9 @@ use Rattle.capn_walk.specs.Limits.{Bounds}
 use Rattle.capn_cover.specs.declared.covered.Covered.{Covered}
 use Rattle.capn_cover.specs.declared.covered.Role.{Role}
 use Rattle.capn_cover.specs.declared.covered.Role.TheVariants as roles
+use Rattle.capn_cover.specs.Numbers.{number}
 use Rattle.capn_cover.specs.Parts.{differs}
-
--- the number of the word at a place: how many words of the message lie before it
-abbrev pub number : List (List ℕ) → Place → ℕ
-number message at = total (take at.segment message) + at.word
+use Rattle.capn_cover.specs.Cuts.{is_cut}
 
 -- one word that is covered once: the number of the word, the number of the slot whose visit covers it, and what the
 -- word is there
@@ -89,9 +86,39 @@ abbrev pub times : List Covering → ℕ → ℕ
 times [] w = 0
 times (c ∷ cs) w = (if c.word == w then 1 else 0) + times cs w
 
+-- a word in the given role is read as a slot
+abbrev pub is_read : Role → Bool
+is_read roles.Root = true
+is_read roles.Slot = true
+is_read _ = false
+
+-- the covering reads the word with the number `w` as a slot
+abbrev pub reads : Covering → ℕ → Bool
+reads c w = (c.word == w) && is_read c.role
+
+-- one of the coverings is by the visit of the slot with the number `w`
+abbrev pub is_followed : List Covering → ℕ → Bool
+is_followed [] w = false
+is_followed (c ∷ cs) w = (c.slot == w) || is_followed cs w
+
+-- The slot through whose object the walk first comes to the slot with the number `w`: of the coverings before the first
+-- one by the visit of `w` itself, the last that reads `w` as a slot is by the visit of the holder. If none does, it is
+-- the slot `so_far`.
+abbrev pub holder : List Covering → (so_far w : ℕ) → ℕ
+holder [] so_far w = so_far
+holder (c ∷ cs) so_far w = if c.slot == w then so_far else holder cs (if reads c w then c.slot else so_far) w
+
 -- the word that nothing covers
 abbrev pub unreached : Covered
-unreached = record { times = 0; slot = 0; role = roles.Unreached; overlap = false }
+unreached = record {
+  times = 0;
+  slot = 0;
+  holder = 0;
+  role = roles.Unreached;
+  overlap = false;
+  is_followed = false;
+  cut = false;
+}
 
 module _ (message : List (List ℕ)) where
   -- one of the coverings of the word with the number `w` is by another part than the slot's in the given role
@@ -100,11 +127,24 @@ module _ (message : List (List ℕ)) where
   is_overlap slot role (c ∷ cs) w =
       (if c.word == w then differs message slot role c.slot c.role else false) || is_overlap slot role cs w
 
-  -- what the coverings make of the word with the number `w`: its first covering says where it belongs to and what it is
-  -- there
+  -- what the coverings make of the word with the number `w`, but for what they say of it as a slot: `c` is the first of
+  -- its coverings, and `cs` come behind it
+  abbrev pub belonging : Covering → List Covering → (w : ℕ) → Covered
+  belonging c cs w = record {
+    times = 1 + times cs w;
+    slot = c.slot;
+    holder = 0;
+    role = c.role;
+    overlap = is_overlap c.slot c.role cs w;
+    is_followed = false;
+    cut = is_cut message c.slot c.role w;
+  }
+
+  -- the same for a list of coverings: the first covering of the word says where the word belongs to and what it is there
+  abbrev pub belongs_at : List Covering → (w : ℕ) → Covered
+  belongs_at [] w = unreached
+  belongs_at (c ∷ cs) w = if c.word == w then belonging c cs w else belongs_at cs w
+
+  -- what the coverings make of the word with the number `w`
   abbrev pub cover_at : List Covering → (w : ℕ) → Covered
-  cover_at [] w = unreached
-  cover_at (c ∷ cs) w =
-      if c.word == w
-      then (record { times = 1 + times cs w; slot = c.slot; role = c.role; overlap = is_overlap c.slot c.role cs w })
-      else cover_at cs w
+  cover_at cs w = record (belongs_at cs w) { holder = holder cs 0 w; is_followed = is_followed cs w }

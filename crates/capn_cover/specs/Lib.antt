@@ -1,4 +1,6 @@
 pub mod inner
+pub mod Numbers
 pub mod Parts
+pub mod Cuts
 pub mod Covers
 pub mod Cover

@@ -1,5 +1,5 @@
 -- What covers a word: the message itself, a landing pad or an object. (Our own.)
-use Rattle.std.specs.Prelude.{ℕ, suc, ◌-◌, ◌==◌, nat_lt, Bool, true, false, not, ◌&&◌, List, [], ◌∷◌, length}
+use Rattle.std.specs.Prelude.{ℕ, ◌==◌, Bool, true, false, not, ◌&&◌, List}
 use Rattle.std.specs.Prelude.{Result, Ok, Option, Some, None, if◌then◌else◌}
 use Rattle.capn_words.specs.Pointers.{width_code}
 use Rattle.capn_words.specs.declared.space.Place.{Place}
@@ -12,17 +12,11 @@ use Rattle.capn_target.specs.declared.target.Shape.{Shape}
 use Rattle.capn_target.specs.declared.target.Shape.TheVariants as shapes
 use Rattle.capn_target.specs.declared.target.Fault.{Fault}
 use Rattle.capn_target.specs.Target.{pointer_in, target}
+use Rattle.capn_cover.specs.Numbers.{place_from}
 use Rattle.capn_cover.specs.declared.covered.Role.{Role}
 use Rattle.capn_cover.specs.declared.covered.Role.TheVariants as roles
 use Rattle.capn_cover.specs.declared.part.Part.{Part}
 use Rattle.capn_cover.specs.declared.part.Part.TheVariants.{Whole, Pad, Object}
-
--- the place of the word with the number `n` in the segments, of which the first is segment `s`, or `None` if there is
--- no such word
-abbrev pub place_from : (s : ℕ) → List (List ℕ) → (n : ℕ) → Option Place
-place_from s [] n = None
-place_from s (ws ∷ m) n =
-    if nat_lt n (length ws) then Some (record { segment = s; word = n }) else place_from (suc s) m (n - length ws)
 
 -- the landing pad that a pointer names: its first word, and its number of words
 abbrev pub pad_of : Pointer → Part

@@ -7,8 +7,9 @@ ghost use Rattle.capn_target.specs.Target as spec;
 ghost use Rattle.capn_target.specs.declared.target.Target.TheVariants as targets;
 ghost use Rattle.capn_target.specs.Shapes.{IsContent, extent, RowsFit};
 ghost use Rattle.capn_walk.specs.Visits.{places, row_places, slots};
+ghost use Rattle.capn_cover.specs.Numbers.{CountsBefore};
 ghost use Rattle.capn_cover.specs.Covers.{covers, pad_run};
-ghost use Rattle.capn_cover.specs.inner.Laid.{laid, HasRoom, CountsBefore, Leads, cover_below, cover_of};
+ghost use Rattle.capn_cover.specs.inner.Laid.{laid, HasRoom, Leads, cover_below, cover_of};
 
 use crate::covered::{Covered, Role};
 use crate::object_words::{cover_content, cover_run};
@@ -31,6 +32,7 @@ fn cover_pads<S: Space>(
     requires counts { CountsBefore (S.message space.now) before.now }
     requires each { length cells.old ≡ total (S.message space.now) }
     requires place { IsPlace (S.message space.now) at }
+    requires by { slot < length cells.old }
     requires leads { Leads (S.message space.now) at pads }
     requires room { HasRoom (length (pad_run (S.message space.now) slot pads
         (spec.pointer_in (S.message space.now) at.segment at.word))) cells.old }

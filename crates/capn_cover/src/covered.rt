@@ -1,9 +1,9 @@
 //! One word of a cover, and its role.
 
 ghost use Rattle.std.specs.Prelude.{◌≡◌};
-ghost use Rattle.capn_cover.specs.Covers.{unreached};
+ghost use Rattle.capn_cover.specs.Covers.{is_read, unreached};
 
-/// What a word is in the object or the landing pad to which it belongs.
+/// The role of a word in the object or the landing pad to which the word belongs.
 #[derive(Clone, Copy, Debug, PartialEq, Eq)]
 pub enum Role {
     /// The root's slot, which is covered by the message itself.
@@ -24,19 +24,48 @@ pub enum Role {
     Unreached,
 }
 
-/// What the visits of a message make of one word.
+/// One word of a message, by the visits that cover it.
 #[derive(Clone, Copy, Debug, PartialEq, Eq)]
 pub struct Covered {
-    /// How often the word is covered, by all visits together. The message itself covers the root's slot once more.
+    /// The number of times that the word is covered, by all visits together. The message itself covers the root's slot
+    /// once more.
     pub times: u32,
     /// The number of the slot whose visit is the first that covers the word: how many words of the message lie before
     /// that slot. For the root's slot, and for a word that nothing covers, 0.
     pub slot: u32,
-    /// What the word is there.
+    /// For a word that is followed as a slot, the number of the slot through whose object the walk first comes to it. For
+    /// another slot, the number of the last slot to whose object it belongs as a slot. For the root's slot, and for a
+    /// word that no visit covers as a slot, 0.
+    pub holder: u32,
+    /// The role of the word there.
     pub role: Role,
-    /// Whether two that cover the word differ. They don't if both are objects with the same first word and the same
+    /// Set if two that cover the word differ. They don't if both are objects with the same first word and the same
     /// kind, sizes and counts, or both are the same landing pad.
     pub overlap: bool,
+    /// Set if the word is followed: a visit of it as a slot covers words, or it is the root's slot.
+    pub is_followed: bool,
+    /// Set if canonical bytes leave the word out of the object to which it belongs. They leave out the zero words at
+    /// the end of a struct's data, and the null slots at its end. Of the structs of a list they leave out those words
+    /// and slots that they can leave out of each.
+    pub cut: bool,
+}
+
+impl Role {
+    /// Tests whether a word in this role is read as a slot.
+    pub(crate) fn is_read(self) -> bool
+        ensures { result ≡ is_read self }
+    {
+        match self {
+            Role::Root => true,
+            Role::Slot => true,
+            Role::Pad => false,
+            Role::Tag => false,
+            Role::Data => false,
+            Role::Numbers => false,
+            Role::Slack => false,
+            Role::Unreached => false,
+        }
+    }
 }
 
 impl Covered {
@@ -47,8 +76,11 @@ impl Covered {
         Covered {
             times: 0,
             slot: 0,
+            holder: 0,
             role: Role::Unreached,
             overlap: false,
+            is_followed: false,
+            cut: false,
         }
     }
 }

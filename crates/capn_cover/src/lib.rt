@@ -5,10 +5,18 @@
 //! a slot that leads to a struct or a list covers the words of its landing pad and then the words of the content. The
 //! root's slot is covered by the message itself, before all visits. A word belongs to the first that covers it, and is
 //! an overlap if something else covers it too.
+//!
+//! A word is a slot if a visit reads it as one, and cut if canonical bytes leave it out of the object to which it
+//! belongs.
+//!
+//! Words have numbers, counted from 0 over all segments. [`words_before`], [`number_of`] and [`place_of`] lead from
+//! places to numbers and back.
 #![tactic(auto)]
 
 mod cover_visits;
 mod covered;
+mod cut_words;
+mod kept;
 mod message_cover;
 mod object_words;
 mod part;
@@ -16,3 +24,4 @@ mod starts;
 
 pub use covered::{Covered, Role};
 pub use message_cover::cover;
+pub use starts::{number_of, place_of, words_before};

@@ -5,12 +5,15 @@ ghost use Rattle.capn_words.specs.Message.{IsMessage, IsPlace, total};
 ghost use Rattle.capn_value.specs.Tree.{Tree};
 ghost use Rattle.capn_walk.specs.Accepted.{IsAccepted, IsValueOf, IsWalkRefused, paid, root};
 ghost use Rattle.capn_target.specs.declared.target.Fault.TheVariants.{Memory};
+ghost use Rattle.capn_cover.specs.Numbers.{CountsBefore};
 ghost use Rattle.capn_cover.specs.Cover.{IsCover, all_times};
 ghost use Rattle.capn_cover.specs.Covers.{whole, unreached};
 ghost use Rattle.capn_cover.specs.inner.Laid.{laid, cover_below};
+ghost use Rattle.capn_cover.specs.inner.Marked.{AreMarked};
 
 use crate::cover_visits::cover_slot;
 use crate::covered::{Covered, Role};
+use crate::cut_words::cut_words;
 use crate::object_words::cover_word;
 use crate::starts::words_before;
 use capn_walk::{Fault, Limits, Stopped, survey};
@@ -22,19 +25,22 @@ use std::alloc::{AllocError, Allocator};
 ///
 /// A visit covers words if its slot leads to a struct or a list: first those of its landing pad, then those of the
 /// content. The root's slot is covered by the message itself, before all visits. A word belongs to the first that
-/// covers it. (Our own.)
+/// covers it. It is a slot if a visit reads it as one, and cut if canonical bytes leave it out of the object to which
+/// it belongs. (Our own.)
 ///
-/// The work is one step for each word that is covered, as often as it is. The errors are those of [`survey`], and
-/// `Memory`. `Memory` is returned only if an allocation on `alloc` was refused.
+/// The work is one step for each word that is covered, as often as it is. Then the object of each slot is read once
+/// more, however often the slot is visited, for what canonical bytes leave out of it. That takes a few steps for each
+/// word of these objects, all of which the walk has paid. The errors are those of [`survey`], and `Memory`. `Memory` is
+/// returned only if an allocation on `alloc` was refused.
 ///
-/// Memory: 12 bytes for each word of the message, and while the call runs 4 bytes for each segment.
+/// Memory: 16 bytes for each word of the message, and while the call runs 4 bytes for each segment.
 pub fn cover<S: Space, A: Allocator + Copy>(
     alloc: A,
     space: &S,
     limits: Limits,
 ) -> Result<Vec<Covered, A>, Stopped>
     // If `result` is `Ok`, the message is accepted, and there is an item for each word: how often it is covered, by
-    // what first, and whether something else covers it too.
+    // what first, whether something else covers it too, what first reads it as a slot, and whether it is cut.
     ensures found { IfOk result (λ words. IsCover (S.message space.now) limits words.items) }
     // All words together are covered at most once for each word that the walk pays, and the root's slot once more.
     ensures work { IfOk result (λ words. all_times words.items ≤ 1 + paid (S.message space.now) limits) }
@@ -70,13 +76,31 @@ fn cover_accepted<S: Space, A: Allocator + Copy>(
     requires message { IsMessage (S.message space.now) }
     requires place { IsPlace (S.message space.now) root }
     requires few { 1 + length (cover_below (S.message space.now) depth root) < 2 ^ 32 }
-    ensures { IfOk result (λ words. words.items ≡ laid (S.message space.now)
-        (whole ∷ cover_below (S.message space.now) depth root) (replicate (total (S.message space.now)) unreached)) }
+    ensures { IfOk result (λ words. AreMarked (S.message space.now) (laid (S.message space.now)
+        (whole ∷ cover_below (S.message space.now) depth root) (replicate (total (S.message space.now)) unreached))
+        words.items) }
 {
     let before = words_before(alloc, space)?;
     let total = total_words(space);
     let mut words = vec![in alloc; Covered::unreached(); total as usize]?;
     cover_word(space, &before, &mut words, 0, 0, Role::Root);
     cover_slot(space, &before, &mut words, Place::ROOT, depth);
+    cut_covered(space, &before, &mut words, depth);
     Ok(words)
+}
+
+/// Marks each of the words `cells` that canonical bytes leave out of the object to which it belongs. What covers the
+/// words of the message `space`, which is at most `depth` objects deep, has been laid into `cells`. Element `s` of
+/// `before` is the number of words before segment `s`.
+fn cut_covered<S: Space>(space: &S, before: &[u32], cells: &mut [Covered], _depth: u32)
+    requires message { IsMessage (S.message space.now) }
+    requires counts { CountsBefore (S.message space.now) before.now }
+    requires place { IsPlace (S.message space.now) root }
+    requires covered { cells.old ≡ laid (S.message space.now)
+        (whole ∷ cover_below (S.message space.now) _depth root) (replicate (total (S.message space.now)) unreached) }
+    ensures { AreMarked (S.message space.now) (laid (S.message space.now)
+        (whole ∷ cover_below (S.message space.now) _depth root) (replicate (total (S.message space.now)) unreached))
+        cells.new }
+{
+    cut_words(space, before, cells);
 }

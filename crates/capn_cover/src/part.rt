@@ -5,7 +5,7 @@ ghost use Rattle.capn_words.specs.Message.{IsMessage, IsPlace};
 ghost use Rattle.capn_words.specs.Pointers.{width_code};
 ghost use Rattle.capn_target.specs.Target.{pointer_in, target};
 ghost use Rattle.capn_cover.specs.Parts as spec;
-ghost use Rattle.capn_cover.specs.inner.Laid.{CountsBefore};
+ghost use Rattle.capn_cover.specs.Numbers.{CountsBefore};
 
 use crate::covered::Role;
 use crate::starts::place_of;

@@ -2,15 +2,16 @@
 
 ghost use Rattle.std.specs.Prelude.{◌≡◌, ◌≤◌, ◌<◌, ◌+◌, length, IfOk, IfSome};
 ghost use Rattle.capn_words.specs.Message.{IsMessage, IsPlace, segment_at};
-ghost use Rattle.capn_cover.specs.Parts.{place_from};
-ghost use Rattle.capn_cover.specs.Covers.{number};
-ghost use Rattle.capn_cover.specs.inner.Laid.{CountsBefore, IsLastBefore};
+ghost use Rattle.capn_cover.specs.Numbers.{number, place_from, CountsBefore};
+ghost use Rattle.capn_cover.specs.inner.Laid.{IsLastBefore};
 
 use capn_target::segment_length;
 use capn_words::{Place, Space};
 use std::alloc::{AllocError, Allocator};
 
 /// Returns a vector in which element `s` is the number of words before segment `s` of the message `space`.
+///
+/// Memory: 4 bytes for each segment. An error means that an allocation on `alloc` was refused.
 #[tactic(auto, using(crate::proofs::Before::one_more, crate::proofs::Before::next, crate::proofs::Before::within))]
 pub fn words_before<S: Space, A: Allocator>(alloc: A, space: &S) -> Result<Vec<u32, A>, AllocError>
     requires { IsMessage (S.message space.now) }

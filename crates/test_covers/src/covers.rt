@@ -1,46 +1,11 @@
 //! Tests of the times, the slots, the roles and the overlaps of words.
 
+use crate::wanted::{cut, follow, is_cover, none, overlap, word};
 use crate::words::bytes_of;
-use capn_cover::{Covered, Role, cover};
+use capn_cover::{Role, cover};
 use capn_stream::first;
 use capn_walk::{Fault, Limits};
-use std::alloc::Global;
 use std::test::Fail;
-
-/// Returns the word that is covered `times` times, first by the visit of the slot with the number `slot`.
-fn word(times: u32, slot: u32, role: Role) -> Covered {
-    Covered {
-        times,
-        slot,
-        role,
-        overlap: false,
-    }
-}
-
-/// Returns the word that two parts cover which differ, `times` times in all.
-fn overlap(times: u32, slot: u32, role: Role) -> Covered {
-    Covered {
-        overlap: true,
-        ..word(times, slot, role)
-    }
-}
-
-/// Returns the word that nothing covers.
-fn none() -> Covered {
-    word(0, 0, Role::Unreached)
-}
-
-/// Tests whether the message that `words` begin with, after its segment table, has the cover `want`.
-fn is_cover(alloc: Global, words: &[u64], want: &[Covered]) -> Result<bool, Fail> {
-    let bytes = bytes_of(alloc, words)?;
-    let Ok((framed, _)) = first(alloc, bytes.as_slice(), Limits::usual().message_words()) else {
-        return Ok(false);
-    };
-    match cover(alloc, &framed, Limits::usual()) {
-        Ok(words) => Ok(words.as_slice() == want),
-        Err(_) => Ok(false),
-    }
-}
 
 #[test]
 fn words_of_one_object_each(rt: HostRuntime) -> Result<(), Fail> {
@@ -49,7 +14,7 @@ fn words_of_one_object_each(rt: HostRuntime) -> Result<(), Fail> {
     let want = [
         word(1, 0, Role::Root),
         word(1, 0, Role::Data),
-        word(1, 0, Role::Slot),
+        follow(word(1, 0, Role::Slot)),
         word(1, 2, Role::Numbers),
     ];
     assert!(rt; is_cover(rt.alloc(), &words, &want)?);
@@ -63,7 +28,7 @@ fn words_of_one_object_each(rt: HostRuntime) -> Result<(), Fail> {
     ];
     let want = [
         word(1, 0, Role::Root),
-        word(1, 0, Role::Slot),
+        follow(word(1, 0, Role::Slot)),
         none(),
         word(1, 1, Role::Numbers),
     ];
@@ -95,10 +60,10 @@ fn a_landing_pad_and_a_shared_list(rt: HostRuntime) -> Result<(), Fail> {
     let want = [
         word(1, 0, Role::Root),
         word(1, 0, Role::Pad),
-        word(1, 0, Role::Data),
-        word(1, 0, Role::Slot),
-        word(1, 0, Role::Slot),
-        word(1, 0, Role::Slot),
+        cut(word(1, 0, Role::Data)),
+        follow(word(1, 0, Role::Slot)),
+        follow(word(1, 0, Role::Slot)),
+        cut(word(1, 0, Role::Slot)),
         word(2, 3, Role::Numbers),
     ];
     assert!(rt; is_cover(rt.alloc(), &words, &want)?);
@@ -140,8 +105,8 @@ fn rows_that_a_later_list_shares_and_slack(rt: HostRuntime) -> Result<(), Fail> 
     ];
     let want = [
         word(1, 0, Role::Root),
-        word(1, 0, Role::Slot),
-        word(1, 0, Role::Slot),
+        follow(word(1, 0, Role::Slot)),
+        follow(word(1, 0, Role::Slot)),
         word(1, 1, Role::Tag),
         word(1, 1, Role::Data),
         overlap(2, 1, Role::Data),
@@ -164,9 +129,9 @@ fn what_is_below_a_shared_object(rt: HostRuntime) -> Result<(), Fail> {
     ];
     let want = [
         word(1, 0, Role::Root),
-        word(1, 0, Role::Slot),
-        word(1, 0, Role::Slot),
-        word(2, 1, Role::Slot),
+        follow(word(1, 0, Role::Slot)),
+        follow(word(1, 0, Role::Slot)),
+        follow(word(2, 1, Role::Slot)),
         word(2, 3, Role::Data),
     ];
     assert!(rt; is_cover(rt.alloc(), &words, &want)?);
@@ -190,7 +155,7 @@ fn rows_of_slots(rt: HostRuntime) -> Result<(), Fail> {
         word(1, 0, Role::Root),
         word(1, 0, Role::Tag),
         word(1, 0, Role::Data),
-        word(1, 0, Role::Slot),
+        follow(word(1, 0, Role::Slot)),
         overlap(2, 0, Role::Data),
         word(1, 0, Role::Slot),
     ];
@@ -212,8 +177,8 @@ fn a_shared_landing_pad(rt: HostRuntime) -> Result<(), Fail> {
     ];
     let want = [
         word(1, 0, Role::Root),
-        word(1, 0, Role::Slot),
-        word(1, 0, Role::Slot),
+        follow(word(1, 0, Role::Slot)),
+        follow(word(1, 0, Role::Slot)),
         word(2, 1, Role::Pad),
         word(2, 1, Role::Data),
     ];
@@ -235,8 +200,8 @@ fn parts_that_differ(rt: HostRuntime) -> Result<(), Fail> {
     ];
     let want = [
         word(1, 0, Role::Root),
-        word(1, 0, Role::Slot),
-        word(1, 0, Role::Slot),
+        follow(word(1, 0, Role::Slot)),
+        follow(word(1, 0, Role::Slot)),
         word(2, 1, Role::Numbers),
     ];
     assert!(rt; is_cover(rt.alloc(), &shared, &want)?);
@@ -249,8 +214,8 @@ fn parts_that_differ(rt: HostRuntime) -> Result<(), Fail> {
     ];
     let want = [
         word(1, 0, Role::Root),
-        word(1, 0, Role::Slot),
-        word(1, 0, Role::Slot),
+        follow(word(1, 0, Role::Slot)),
+        follow(word(1, 0, Role::Slot)),
         overlap(2, 1, Role::Numbers),
     ];
     assert!(rt; is_cover(rt.alloc(), &shorter, &want)?);

@@ -6,4 +6,8 @@
 #[cfg(test)]
 mod covers;
 #[cfg(test)]
+mod slots;
+#[cfg(test)]
+mod wanted;
+#[cfg(test)]
 mod words;

@@ -1,5 +1,5 @@
 -- Coverings that are laid into a list with one item for each word, one covering after another.
-use Rattle.std.specs.Prelude.{◌≡◌, ℕ, zero, suc, ◌+◌, ◌^◌, ◌<◌, ◌≤◌, ◌==◌, ◌||◌, false, List, [], ◌∷◌, ◌++◌}
+use Rattle.std.specs.Prelude.{◌≡◌, ℕ, zero, suc, ◌+◌, ◌^◌, ◌<◌, ◌≤◌, ◌==◌, ◌||◌, Bool, true, false, List, [], ◌∷◌, ◌++◌}
 use Rattle.std.specs.Prelude.{length, take, set}
 use Rattle.std.specs.Prelude.{slice_index, slice_index_or, Result, Ok, Err, if◌then◌else◌}
 use Rattle.std.specs.List.{flat_map}
@@ -14,33 +14,67 @@ use Rattle.capn_walk.specs.View.{slots_below}
 use Rattle.capn_cover.specs.declared.covered.Covered.{Covered}
 use Rattle.capn_cover.specs.declared.covered.Role.{Role}
 use Rattle.capn_cover.specs.Parts.{differs}
-use Rattle.capn_cover.specs.Covers.{Covering, covers, unreached}
+use Rattle.capn_cover.specs.Covers.{Covering, covers, is_read, unreached}
+
+-- the holder of a word with the given holder, after a visit of the slot covers the word in the role
+abbrev pub holder_after : (is_followed : Bool) → (holder slot : ℕ) → Role → ℕ
+holder_after is_followed holder slot role =
+    if is_followed then holder else if is_read role then slot else holder
+
+-- the word `x`, after a visit of it as a slot covers words
+abbrev pub followed : Covered → Covered
+followed x = record x { is_followed = true }
+
+-- the items after a visit of the slot with the given number covers words
+abbrev pub followed_in : (slot : ℕ) → List Covered → List Covered
+followed_in slot cells = set cells slot (followed (slice_index_or cells slot unreached))
 
 module _ (m : List (List ℕ)) where
+  -- the word `x`, which nothing has covered, after it is covered
+  abbrev pub first_covered : (slot : ℕ) → Role → Covered → Covered
+  first_covered slot role x = record {
+    times = 1;
+    slot = slot;
+    holder = holder_after x.is_followed x.holder slot role;
+    role = role;
+    overlap = false;
+    is_followed = x.is_followed;
+    cut = false;
+  }
+
+  -- the word `x`, which something has covered, after it is covered again
+  abbrev pub covered_again : (slot : ℕ) → Role → Covered → Covered
+  covered_again slot role x = record x {
+    times = x.times + 1;
+    holder = holder_after x.is_followed x.holder slot role;
+    overlap = x.overlap || differs m x.slot x.role slot role;
+  }
+
   -- the word `x` after it is covered once more
   abbrev pub once_more : (slot : ℕ) → Role → Covered → Covered
-  once_more slot role x =
-      if x.times == 0
-      then (record { times = 1; slot = slot; role = role; overlap = false })
-      else (record x { times = x.times + 1; overlap = x.overlap || differs m x.slot x.role slot role })
+  once_more slot role x = if x.times == 0 then first_covered slot role x else covered_again slot role x
+
+  -- the items after a covering by the visit of the slot is laid into them, which are marked already as that visit marks
+  -- its slot
+  abbrev pub touched_in : (word slot : ℕ) → Role → List Covered → List Covered
+  touched_in word slot role cells = set cells word (once_more slot role (slice_index_or cells word unreached))
 
   -- the items after the covering `c` is laid into them
   abbrev pub touched : Covering → List Covered → List Covered
-  touched c cells = set cells c.word (once_more c.slot c.role (slice_index_or cells c.word unreached))
+  touched c cells = touched_in c.word c.slot c.role (followed_in c.slot cells)
 
   -- the items after the coverings are laid into them, one after another
   abbrev pub laid : List Covering → List Covered → List Covered
   laid [] cells = cells
   laid (c ∷ cs) cells = laid cs (touched c cells)
 
+-- the word `x`, with no mark that it is cut
+abbrev pub uncut : Covered → Covered
+uncut x = record x { cut = false }
+
 -- no item is so often covered that `n` times more pass what 32 bits hold
 abbrev pub HasRoom : ℕ → List Covered → Type 0
 HasRoom n cells = (w : ℕ) → (slice_index_or cells w unreached).times + n < 2 ^ 32
-
--- element `s` of `before` is the number of words of `m` before segment `s`, for each segment of `m`
-pub record CountsBefore (m : List (List ℕ)) (before : List ℕ) : Type 0 where
-  pub count : length before ≡ length m
-  pub each : (s : ℕ) → s < length m → slice_index before s ≡ total (take s m)
 
 -- segment `s` is the last segment before which there are at most `n` words
 pub record IsLastBefore (before : List ℕ) (n s : ℕ) : Type 0 where

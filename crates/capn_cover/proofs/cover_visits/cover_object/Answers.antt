@@ -2,7 +2,8 @@ use Rattle.std.proofs.Common.{Ok, refl, arith}
 use Rattle.capn_target.specs.declared.target.Target.TheVariants as targets
 use Rattle.capn_target.specs.Target.{pointer_in}
 use Rattle.capn_target.proofs.shared.Inside.{found-inside}
-use Rattle.capn_cover.specs.Covers.{number, covers, pad_run, content_run}
+use Rattle.capn_cover.specs.Numbers.{number}
+use Rattle.capn_cover.specs.Covers.{covers, pad_run, content_run}
 use Rattle.capn_cover.proofs.Before.{within}
 use Rattle.capn_cover.proofs.Rooms.{laid-next, room-second}
 use Rattle.capn_cover.proofs.Runs.{content-length}

@@ -1,7 +1,7 @@
 use Rattle.std.proofs.Common.{ap, sym, ◌∙◌, arith}
 use Rattle.capn_words.specs.Pointers.{pointer_of}
 use Rattle.capn_cover.specs.declared.covered.Role.TheVariants as roles
-use Rattle.capn_cover.specs.Covers.{number}
+use Rattle.capn_cover.specs.Numbers.{number}
 use Rattle.capn_cover.proofs.Before.{within}
 use Rattle.capn_cover.proofs.LaidItems.{room-less}
 use Rattle.capn_cover.proofs.Pads.{pad-inside}

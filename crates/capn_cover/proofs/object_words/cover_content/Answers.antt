@@ -33,6 +33,7 @@ cover_run-requires-in_default g c =
       message = c.requires.message;
       counts = c.requires.counts;
       within = omega arith;
+      by = c.requires.by;
       few = c.requires.few;
       room = rw e room;
     }
