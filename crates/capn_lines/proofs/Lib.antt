@@ -1,0 +1,9 @@
+pub mod shared
+mod Sums
+mod Numbered
+mod Counted
+mod Lines
+mod LineWalks
+mod Orders
+mod Covers
+mod WorkedLines
