@@ -5,9 +5,10 @@ mod RunLemmas
 mod PutLemmas
 mod SpanLemmas
 mod WordLemmas
-mod DenseLemmas
+mod FirstLemmas
 mod LaneLemmas
 mod RowLemmas
 mod WholeGroupLemmas
 mod StartLemmas
+mod Cuttings
 pub mod PackedRows

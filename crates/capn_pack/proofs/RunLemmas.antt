@@ -1,10 +1,11 @@
--- Lemmas for `long_run`, `raw_run`, `raw_step` and `zero_run`: runs of words, and the bytes that a tag names.
+-- Lemmas for `runs.rt`: runs of words, and the bytes that a tag names.
 use Rattle.std.proofs.Common.{◌≡◌, ℕ, zero, suc, ◌+◌, ◌-◌, ◌*◌, ◌/◌, ◌%◌, ◌<◌, ◌≤◌, true, false, eqb, ltb, List}
 use Rattle.std.proofs.Common.{[], ◌∷◌, ◌++◌, length, take, drop, slice_range, replicate, filter, refl, sym, ap, ◌∙◌}
 use Rattle.std.proofs.Common.{subst, arith, append_assoc, take-add, take-append-drop, drop-drop, length-take}
 use Rattle.std.proofs.Common.{length-drop, take_all}
 use Rattle.std.proofs.lemmas.Bool.{ne_eqb, lt-ltb}
-use Rattle.std.proofs.lemmas.List.{replicate-append-replicate, take-append-le, drop-append-le, drop_all}
+use Rattle.std.proofs.lemmas.List.{replicate-append-replicate, take-append-le, drop-append-le, drop_all, take-take}
+use Rattle.std.proofs.lemmas.List.{drop-take, take-replicate, length-replicate}
 use Rattle.std.specs.Prelude.{count_ones}
 use Rattle.capn_pack.specs.Packed.{tag_of, named_bytes, IsNamedBy}
 use Rattle.capn_pack.specs.Chosen.{zero_count, IsDense, AllDense}
@@ -148,20 +149,143 @@ dense_more bytes start limit count d less room h =
     dense_steps bytes start limit count 1 d
     (record { most = omega arith; inside = omega arith; dense = subst (AllDense 1) (sym here) (one_dense word dense) })
 
--- ---- words without a zero byte
+-- ---- the first of eight words, which were tested at once
 
--- if every bit of the tag of `xs` is set, no byte of `xs` is zero
-pub eight_dense_at : (bytes : List ℕ) (at : ℕ) → AllDense 8 (take 64 (drop at bytes))
-    → AllDense 8 (slice_range bytes at (at + 8 * 8))
-eight_dense_at bytes at dense =
-    let size : at + 8 * 8 - at ≡ 64 = omega arith in
-    subst (AllDense 8) (sym (ap (λ n. take n (drop at bytes)) size)) dense
+-- the first `n` of the eight words from offset `at` on
+eight_front : (bytes : List ℕ) (at n : ℕ) → n ≤ 8
+    → take (8 * n) (take 64 (drop at bytes)) ≡ take (8 * n) (drop at bytes)
+eight_front bytes at n few = take-take (8 * n) 64 (drop at bytes) (omega arith)
 
-pub none_at : (bytes : List ℕ) (at n : ℕ) → n ≡ 0 → IsDense (take 8 (drop at bytes))
+-- the word after them
+eight_next : (bytes : List ℕ) (at n : ℕ) → n < 8
+    → take 8 (drop (8 * n) (take 64 (drop at bytes))) ≡ take 8 (drop (at + 8 * n) bytes)
+eight_next bytes at n few =
+    let size : 64 ≡ 8 * n + (64 - 8 * n) = omega arith in
+    ap (λ k. take 8 (drop (8 * n) (take k (drop at bytes)))) size
+    ∙ ap (take 8) (drop-take (8 * n) (64 - 8 * n) (drop at bytes))
+    ∙ take-take 8 (64 - 8 * n) (drop (8 * n) (drop at bytes)) (omega arith)
+    ∙ ap (take 8) (drop-drop (8 * n) at bytes)
+
+pub zeros_found : (bytes words : List ℕ) (at n : ℕ) → words ≡ take 64 (drop at bytes) → n ≤ 8
+    → at + 64 ≤ length bytes
+    → take (8 * n) words ≡ replicate (8 * n) 0
+    → IsZeroRun bytes at n
+zeros_found bytes words at n from few room zeros =
+    let is : take (8 * n) (drop at bytes) ≡ replicate (8 * n) 0 = sym (eight_front bytes at n few)
+    ∙ ap (take (8 * n)) (sym from) ∙ zeros in
+    record {
+      most = omega arith;
+      inside = omega arith;
+      zeros = sym (take-append-drop (8 * n) (drop at bytes)) ∙ (λ i. is i ++ drop-drop (8 * n) at bytes i);
+    }
+
+pub zeros_stop : (bytes words : List ℕ) (at n : ℕ) → words ≡ take 64 (drop at bytes) → n < 8
+    → (take 8 (drop (8 * n) words) ≡ replicate 8 0 → ⊥)
+    → take 8 (drop (at + 8 * n) bytes) ≡ replicate 8 0
+    → ⊥
+zeros_stop bytes words at n from few last e =
+    last (ap (λ l. take 8 (drop (8 * n) l)) from ∙ eight_next bytes at n few ∙ e)
+
+pub dense_found : (bytes words : List ℕ) (at n : ℕ) → words ≡ take 64 (drop at bytes) → n ≤ 8 → at + 64 ≤ length bytes
+    → AllDense n (take (8 * n) words)
+    → IsDenseRun bytes at 8 n
+dense_found bytes words at n from few room dense =
+    let size : at + 8 * n - at ≡ 8 * n = omega arith in
+    let is : take (8 * n) words ≡ slice_range bytes at (at + 8 * n) = ap (take (8 * n)) from
+    ∙ eight_front bytes at n few ∙ ap (λ k. take k (drop at bytes)) (sym size) in
+    record { most = few; inside = omega arith; dense = subst (AllDense n) is dense }
+
+pub dense_stop : (bytes words : List ℕ) (at n : ℕ) → words ≡ take 64 (drop at bytes) → n < 8
+    → (IsDense (take 8 (drop (8 * n) words)) → ⊥)
     → IsDense (take 8 (drop (at + 8 * n) bytes))
-none_at bytes at n none d =
-    let here : at ≡ at + 8 * n = omega arith in
+    → ⊥
+dense_stop bytes words at n from few last d =
+    last (subst IsDense (sym (ap (λ l. take 8 (drop (8 * n) l)) from ∙ eight_next bytes at n few)) d)
+
+-- ---- a shorter run, and a run after another
+
+-- the words of a run of zeros, up to a smaller number, are a run of zeros
+pub zero_cut : (bytes : List ℕ) (at n m : ℕ) → IsZeroRun bytes at n → m ≤ n → IsZeroRun bytes at m
+zero_cut bytes at n m z le =
+    let rest = drop (at + 8 * n) bytes in
+    let long : length (replicate {A = ℕ} (8 * n) 0) ≡ 8 * n = simp length-replicate refl in
+    let is : take (8 * m) (drop at bytes) ≡ replicate (8 * m) 0 = ap (take (8 * m)) z.zeros
+    ∙ take-append-le (8 * m) (replicate (8 * n) 0) rest (omega arith)
+    ∙ take-replicate (8 * m) (8 * n) 0 (omega arith) in
+    record {
+      most = omega (arith, z.most);
+      inside = omega (arith, z.inside);
+      zeros = sym (take-append-drop (8 * m) (drop at bytes)) ∙ (λ i. is i ++ drop-drop (8 * m) at bytes i);
+    }
+
+-- the first words of dense words are dense
+dense_front : (n m : ℕ) (bs : List ℕ) → AllDense n bs → m ≤ n → AllDense m (take (8 * m) bs)
+dense_front n zero bs h le = refl
+dense_front zero (suc m) bs h le = absurd (omega arith)
+dense_front (suc n) (suc m) bs h le =
+    let size : 8 * suc m ≡ 8 + 8 * m = omega arith in
+    let first : take 8 (take (8 * suc m) bs) ≡ take 8 bs = take-take 8 (8 * suc m) bs (omega arith) in
+    let rest : drop 8 (take (8 * suc m) bs) ≡ take (8 * m) (drop 8 bs) = ap (λ k. drop 8 (take k bs)) size
+    ∙ drop-take 8 (8 * m) bs in
+    (subst IsDense (sym first) h.0, subst (AllDense m) (sym rest) (dense_front n m (drop 8 bs) h.1 (omega arith)))
+
+-- the words of a run of dense words, up to a smaller number and a given limit, are such a run
+pub dense_cut : (bytes : List ℕ) (at limit n m most : ℕ) → IsDenseRun bytes at limit n → m ≤ n → m ≤ most
+    → IsDenseRun bytes at most m
+dense_cut bytes at limit n m most d le few =
+    let long : at + 8 * n - at ≡ 8 * n = omega arith in
+    let short : at + 8 * m - at ≡ 8 * m = omega arith in
+    let is : take (8 * m) (slice_range bytes at (at + 8 * n)) ≡ slice_range bytes at (at + 8 * m) =
+    ap (λ k. take (8 * m) (take k (drop at bytes))) long ∙ take-take (8 * m) (8 * n) (drop at bytes) (omega arith)
+    ∙ ap (λ k. take k (drop at bytes)) (sym short) in
+    record {
+      most = few;
+      inside = omega (arith, d.inside);
+      dense = subst (AllDense m) is (dense_front n m _ d.dense le);
+    }
+
+-- the word after two runs
+next_word : (bytes : List ℕ) (start count step : ℕ)
+    → take 8 (drop (start + 8 * count + 8 * step) bytes) ≡ take 8 (drop (start + 8 * (count + step)) bytes)
+next_word bytes start count step =
+    let there : start + 8 * count + 8 * step ≡ start + 8 * (count + step) = omega arith in
+    ap (λ k. take 8 (drop k bytes)) there
+
+pub zeros_after : (bytes : List ℕ) (start count step : ℕ) → IsZeroRun bytes start count
+    → IsZeroRun bytes (start + 8 * count) step
+    → (take 8 (drop (start + 8 * count + 8 * step) bytes) ≡ replicate 8 0 → ⊥)
+    → take 8 (drop (start + 8 * (count + step)) bytes) ≡ replicate 8 0
+    → ⊥
+zeros_after bytes start count step run more last e = last (next_word bytes start count step ∙ e)
+
+pub dense_after : (bytes : List ℕ) (start limit count step : ℕ) → IsDenseRun bytes start limit count
+    → IsDenseRun bytes (start + 8 * count) 8 step
+    → (IsDense (take 8 (drop (start + 8 * count + 8 * step) bytes)) → ⊥)
+    → IsDense (take 8 (drop (start + 8 * (count + step)) bytes))
+    → ⊥
+dense_after bytes start limit count step run more last d =
+    last (subst IsDense (sym (next_word bytes start count step)) d)
+
+-- the word at `start`, as the word after a run of no words
+
+pub tag_here : (bytes : List ℕ) (start : ℕ) → take 8 (drop (start + 0) bytes) ≡ replicate 8 0
+    → tag_of (take 8 (drop start bytes)) ≡ 0
+tag_here bytes start e =
+    let here : start + 0 ≡ start = omega arith in
+    ap (λ k. tag_of (take 8 (drop k bytes))) (sym here) ∙ ap tag_of e
+
+pub dense_here : (bytes : List ℕ) (start : ℕ) → IsDense (take 8 (drop (start + 0) bytes))
+    → IsDense (take 8 (drop start bytes))
+dense_here bytes start d =
+    let here : start + 0 ≡ start = omega arith in
     subst (λ k. IsDense (take 8 (drop k bytes))) here d
+
+pub dense_two : (bytes : List ℕ) (start first step : ℕ) → first ≡ 8 → IsDenseRun bytes start 8 first
+    → IsDenseRun bytes (start + 64) 8 step
+    → IsDenseRun bytes start 16 (8 + step)
+dense_two bytes start first step e run more =
+    dense_steps bytes start 16 8 step
+    (dense_cut bytes start 8 8 8 16 (subst (IsDenseRun bytes start 8) e run) (omega arith) (omega arith)) more
 
 -- ---- the named bytes, and the end of the bytes
 

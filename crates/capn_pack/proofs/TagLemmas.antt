@@ -1,6 +1,7 @@
 -- Lemmas for `tag` and `eight_tags` in `signs.rt`: the tag of a word is the mask of its lanes.
-use Rattle.std.proofs.Common.{◌≡◌, ℕ, ◌+◌, ◌*◌, ◌%◌, ◌^◌, ◌<◌, Bool, true, false, not, cond, eqb, List, [], ◌∷◌, map}
-use Rattle.std.proofs.Common.{length, refl, ◌∙◌, arith, w8, replicate}
+use Rattle.std.proofs.Common.{◌≡◌, ℕ, zero, suc, ◌+◌, ◌*◌, ◌%◌, ◌^◌, ◌<◌, ◌≤◌, Bool, true, false, not, cond, eqb, List}
+use Rattle.std.proofs.Common.{[], ◌∷◌, map, length, take, drop, refl, ap, ◌∙◌, arith, w8, replicate}
+use Rattle.std.proofs.Math.Nat.{two-pow-succ}
 use Rattle.std.proofs.lemmas.Simd.{bitmask_splat, mask_l-lt}
 use Rattle.std.proofs.lemmas.List.{length-map}
 use lib.Lanes.{mask_l, top, zip2}
@@ -31,3 +32,16 @@ pub tag_lt : (xs : List ℕ) → length xs ≡ 8 → tag_of xs < 256
 tag_lt xs long =
     rw (← mask_is xs) (let n : length (map (λ x. differs x 0) xs) ≡ 8 = length-map xs (λ x. differs x 0) ∙ long in
     rw n at (mask_l-lt (map (λ x. differs x 0) xs)))
+
+twice_of : (a b : ℕ) → (a + a) * b ≡ 2 * (a * b)
+twice_of a b = grind arith
+
+-- the tag of a word and of the words after it
+pub tag_split : (n : ℕ) (xs : List ℕ) → n ≤ length xs → tag_of xs ≡ tag_of (take n xs) + 2 ^ n * tag_of (drop n xs)
+tag_split zero xs le = omega arith
+tag_split (suc n) [] le = absurd (omega arith)
+tag_split (suc n) (x ∷ xs) le =
+    let rest = tag_split n xs (omega arith) in
+    let twice : 2 ^ suc n * tag_of (drop n xs) ≡ 2 * (2 ^ n * tag_of (drop n xs)) =
+    ap (λ k. k * tag_of (drop n xs)) (two-pow-succ n) ∙ twice_of (2 ^ n) (tag_of (drop n xs)) in
+    omega (arith, rest, twice)

@@ -4,6 +4,7 @@ pub mod Chosen
 pub mod UnpackRefusal
 pub mod Words
 pub mod PackedPieces
+pub mod Calls
 pub mod Laws
 pub mod Display
 pub mod WholeGroups

@@ -1,5 +1,5 @@
 //! The packing of small groups into a block, whose bytes are then appended to the text in one call.
-ghost use Rattle.std.specs.Prelude.{◌≡◌, ◌+◌, ◌≤◌, ◌∷◌, ◌++◌, [], length, take, drop, IfSome, IfNone};
+ghost use Rattle.std.specs.Prelude.{◌≡◌, ◌+◌, ◌*◌, ◌≤◌, ◌∷◌, ◌++◌, [], length, take, drop, slice_range, IfSome, IfNone};
 ghost use Rattle.capn_pack.specs.Packed.{named_bytes, tag_of};
 ghost use Rattle.capn_pack.specs.inner.Steps.{Puts, PutsRow};
 
@@ -8,9 +8,11 @@ use crate::lanes::gather;
 use crate::runs::{raw_run, word_at, zero_run};
 use crate::signs::tag;
 
-/// The number of bytes that one store writes after the head of a raw group. At the front of these bytes are the group's
-/// words after its first word, at most seven.
-const SPAN: usize = 64;
+/// The number of bytes of eight words. The words of a raw group after its first word are stored eight at a time.
+const EIGHT: usize = 64;
+
+/// The greatest number of bytes that are stored after the head of a raw group, for at most fifteen words.
+const SPAN: usize = 128;
 
 /// The number of free bytes that a block needs for one group. The head of a raw group has ten bytes.
 pub(crate) const ROOM: usize = 10 + SPAN;
@@ -31,8 +33,24 @@ fn store_pair(block: &mut [u8], at: usize, pair: [u8; 2])
     block[at..at + 2].copy_from_slice(&pair);
 }
 
+/// Copies `more` words, at most sixteen, from byte `from` of `bytes` to `block`, from offset `at` on. The [`SPAN`]
+/// bytes of `block` from `at` on may be overwritten.
+#[inline(always)]
+fn store_words(block: &mut [u8], at: usize, bytes: &[u8], from: usize, more: usize)
+    requires room { at + SPAN ≤ length block.old }
+    requires far { from + SPAN ≤ length bytes.now }
+    requires few { more ≤ 16 }
+    ensures { take (at + 8 * more) block.new ≡ take at block.old ++ slice_range bytes.now from (from + 8 * more) }
+{
+    if more <= 8 {
+        store_bytes(block, at, &bytes[from..from + EIGHT]);
+    } else {
+        store_bytes(block, at, &bytes[from..from + SPAN]);
+    }
+}
+
 /// Packs the word at byte `at` of `bytes`, and the words after it as long as each has at most one zero byte, as a raw
-/// group. Writes the group to `block` at offset `fill`. Returns `None` if the group has more than eight words, or if
+/// group. Writes the group to `block` at offset `fill`. Returns `None` if the group has more than sixteen words, or if
 /// fewer than [`SPAN`] bytes follow its first word.
 #[inline(always)]
 fn store_raw(bytes: &[u8], at: usize, block: &mut [u8], fill: usize) -> Option<Block>
@@ -47,15 +65,15 @@ fn store_raw(bytes: &[u8], at: usize, block: &mut [u8], fill: usize) -> Option<B
     if bytes.len() < start + SPAN {
         return None;
     }
-    let more = raw_run(bytes, start, 8);
-    if more == 8 {
+    let more = raw_run(bytes, start);
+    if more == 16 {
         return None;
     }
     // The word stays in vector lanes, as in a group of one word.
     let word = word_at(bytes, at);
     store(block, fill, gather(word, 255));
     store_bytes(block, fill + 9, &[more as u8]);
-    store_bytes(block, fill + 10, &bytes[start..start + SPAN]);
+    store_words(block, fill + 10, bytes, start, more);
     Some(Block {
         at: start + 8 * more,
         fill: fill + 10 + 8 * more,
@@ -93,7 +111,7 @@ fn store_zeros(bytes: &[u8], at: usize, block: &mut [u8], fill: usize) -> Block
 }
 
 /// Packs the words at byte `at` of `bytes` as the group that the packer chooses. Writes the group to `block` at offset
-/// `fill`. Returns `None` for a raw group of more than eight words, or near the end of `bytes` (see [`store_raw`]).
+/// `fill`. Returns `None` for a raw group of more than sixteen words, or near the end of `bytes` (see [`store_raw`]).
 #[inline(always)]
 fn store_group(bytes: &[u8], at: usize, block: &mut [u8], fill: usize) -> Option<Block>
     requires inside { at + 8 ≤ length bytes.now }
@@ -105,12 +123,13 @@ fn store_group(bytes: &[u8], at: usize, block: &mut [u8], fill: usize) -> Option
     let word = word_at(bytes, at);
     let tag = tag(&word);
     match tag {
-        255 => store_raw(bytes, at, block, fill),
-        0 => Some(store_zeros(bytes, at, block, fill)),
-        _ => Some(Block {
+        // Most groups need only this one test.
+        1..=254 => Some(Block {
             fill: store_named(block, fill, word, tag),
             at: at + 8,
         }),
+        0 => Some(store_zeros(bytes, at, block, fill)),
+        _ => store_raw(bytes, at, block, fill),
     }
 }
 

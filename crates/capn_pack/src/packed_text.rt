@@ -14,7 +14,7 @@ use std::alloc::{AllocError, Allocator};
 const BLOCK: usize = 4096 + ROOM;
 
 /// Packs `bytes`, which are whole words. Groups are gathered in a block, which is appended to the text in one call. The
-/// group after each block, for example a raw group of more than eight words, is appended alone.
+/// group after each block, for example a raw group of more than sixteen words, is appended alone.
 fn pack_words<A: Allocator + Copy>(alloc: A, bytes: &[u8]) -> Result<Vec<u8, A>, AllocError>
     requires { length bytes.now % 8 ≡ 0 }
     ensures chosen { IfOk result (λ v. Chosen v.items bytes.now) }

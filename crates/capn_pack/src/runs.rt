@@ -3,7 +3,7 @@ ghost use Rattle.std.specs.Prelude.{◌≡◌, ◌+◌, ◌*◌, ◌<◌, ◌≤
 ghost use Rattle.capn_pack.specs.Chosen.{IsDense};
 ghost use Rattle.capn_pack.specs.inner.Steps.{IsZeroRun, IsDenseRun};
 
-use crate::signs::{eight_dense, eight_tags, tag};
+use crate::signs::{first_dense, first_zeros, tag};
 
 /// Returns the word that begins at byte `at` of `bytes`.
 #[inline(always)]
@@ -26,8 +26,8 @@ fn eight_at(bytes: &[u8], at: usize) -> [u8; 64]
     words
 }
 
-/// Counts how many words in a row, from byte `start` of `bytes` on, are zero, up to eight.
-#[inline(always)]
+/// Counts how many words in a row, from byte `start` of `bytes` on, are zero, up to eight. The words are tested one by
+/// one.
 fn few_zeros(bytes: &[u8], start: usize) -> usize
     requires { start ≤ length bytes.now }
     ensures most { result ≤ 8 }
@@ -44,58 +44,55 @@ fn few_zeros(bytes: &[u8], start: usize) -> usize
     count
 }
 
-/// Returns how many words at byte `at` of `bytes` one test finds to be zero, up to `limit`. The test is of eight words
-/// if there are eight, and otherwise of one word. Returns 0 if the first word is not zero.
+/// Counts how many words in a row, from byte `at` of `bytes` on, are zero, up to eight. One test finds the number, if
+/// there are eight words.
 #[inline(always)]
-fn zero_step(bytes: &[u8], at: usize, limit: usize) -> usize
-    requires inside { at + 8 ≤ length bytes.now }
-    requires some { 0 < limit }
-    requires few { limit ≤ 255 }
-    ensures most { result ≤ limit }
+fn zero_step(bytes: &[u8], at: usize) -> usize
+    requires { at ≤ length bytes.now }
+    ensures most { result ≤ 8 }
     ensures run { IsZeroRun bytes.now at result }
-    ensures last { result ≡ 0 → take 8 (drop at bytes.now) ≡ replicate 8 0 → ⊥ }
+    ensures last { result < 8 → take 8 (drop (at + 8 * result) bytes.now) ≡ replicate 8 0 → ⊥ }
 {
-    if limit >= 8 && at + 64 <= bytes.len() && eight_tags(&eight_at(bytes, at)) == 0 {
-        return 8;
+    if bytes.len() < at + 64 {
+        return few_zeros(bytes, at);
     }
-    if tag(&word_at(bytes, at)) == 0 {
-        return 1;
-    }
-    0
+    first_zeros(&eight_at(bytes, at))
 }
 
-/// Counts how many words in a row, from byte `start` of `bytes` on, are zero, up to 255. The first eight words are
-/// tested one by one, since most runs are short, and the words after these eight at a time.
+/// Counts how many words in a row, from byte `start` of `bytes` on, are zero, up to 255. The first word is tested
+/// alone, since most runs end before it, and the words from it on eight at a time.
 #[inline(always)]
 pub(crate) fn zero_run(bytes: &[u8], start: usize) -> usize
     requires { start ≤ length bytes.now }
     ensures run { IsZeroRun bytes.now start result }
     ensures last { result < 255 → take 8 (drop (start + 8 * result) bytes.now) ≡ replicate 8 0 → ⊥ }
 {
-    let mut count = few_zeros(bytes, start);
-    if count < 8 {
-        return count;
+    if bytes.len() < start + 8 {
+        return 0;
     }
-    while count < 255 && start + 8 * count + 8 <= bytes.len() {
-        let step = zero_step(bytes, start + 8 * count, 255 - count);
-        if step == 0 {
+    if tag(&word_at(bytes, start)) != 0 {
+        return 0;
+    }
+    let mut count = 0;
+    while count < 248 {
+        let step = zero_step(bytes, start + 8 * count);
+        count += step;
+        if step < 8 {
             return count;
         }
-        count += step;
     }
-    count
+    count + zero_step(bytes, start + 8 * count).min(255 - count)
 }
 
-/// Counts how many words in a row, from byte `start` of `bytes` on, have at most one zero byte, up to `limit`.
-#[inline(always)]
-pub(crate) fn raw_run(bytes: &[u8], start: usize, limit: usize) -> usize
-    requires inside { start ≤ length bytes.now }
-    requires few { limit ≤ 255 }
-    ensures run { IsDenseRun bytes.now start limit result }
-    ensures last { result < limit → IsDense (take 8 (drop (start + 8 * result) bytes.now)) → ⊥ }
+/// Counts how many words in a row, from byte `start` of `bytes` on, have at most one zero byte, up to eight. The words
+/// are tested one by one.
+fn few_dense(bytes: &[u8], start: usize) -> usize
+    requires { start ≤ length bytes.now }
+    ensures run { IsDenseRun bytes.now start 8 result }
+    ensures last { result < 8 → IsDense (take 8 (drop (start + 8 * result) bytes.now)) → ⊥ }
 {
     let mut count = 0;
-    while count < limit && start + 8 * count + 8 <= bytes.len() {
+    while count < 8 && start + 8 * count + 8 <= bytes.len() {
         if tag(&word_at(bytes, start + 8 * count)).count_ones() < 7 {
             return count;
         }
@@ -104,23 +101,43 @@ pub(crate) fn raw_run(bytes: &[u8], start: usize, limit: usize) -> usize
     count
 }
 
-/// Counts how many words in a row, from byte `at` of `bytes` on, have at most one zero byte, up to eight and up to
-/// `limit`. One test suffices for eight such words.
+/// Counts how many words in a row, from byte `at` of `bytes` on, have at most one zero byte, up to eight. One test
+/// finds the number, if there are eight words.
 #[inline(always)]
-fn raw_step(bytes: &[u8], at: usize, limit: usize) -> usize
-    requires inside { at ≤ length bytes.now }
-    requires some { 0 < limit }
-    ensures run { IsDenseRun bytes.now at limit result }
-    ensures last { result ≡ 0 → IsDense (take 8 (drop at bytes.now)) → ⊥ }
+fn raw_step(bytes: &[u8], at: usize) -> usize
+    requires { at ≤ length bytes.now }
+    ensures run { IsDenseRun bytes.now at 8 result }
+    ensures last { result < 8 → IsDense (take 8 (drop (at + 8 * result) bytes.now)) → ⊥ }
 {
-    if limit < 8 || bytes.len() < at + 64 || !eight_dense(&eight_at(bytes, at)) {
-        return raw_run(bytes, at, limit.min(8));
+    if bytes.len() < at + 64 {
+        return few_dense(bytes, at);
     }
-    8
+    first_dense(&eight_at(bytes, at))
 }
 
-/// Counts how many words in a row, from byte `start` of `bytes` on, have at most one zero byte, up to 255. One test
-/// suffices for eight such words.
+/// Counts how many words in a row, from byte `start` of `bytes` on, have at most one zero byte, up to sixteen. The
+/// first word is tested alone, since most runs end before it, and the words from it on eight at a time.
+#[inline(always)]
+pub(crate) fn raw_run(bytes: &[u8], start: usize) -> usize
+    requires { start ≤ length bytes.now }
+    ensures run { IsDenseRun bytes.now start 16 result }
+    ensures last { result < 16 → IsDense (take 8 (drop (start + 8 * result) bytes.now)) → ⊥ }
+{
+    if bytes.len() < start + 8 {
+        return 0;
+    }
+    if tag(&word_at(bytes, start)).count_ones() < 7 {
+        return 0;
+    }
+    let first = raw_step(bytes, start);
+    if first < 8 {
+        return first;
+    }
+    8 + raw_step(bytes, start + 64)
+}
+
+/// Counts how many words in a row, from byte `start` of `bytes` on, have at most one zero byte, up to 255. The words
+/// are tested eight at a time.
 #[inline(always)]
 pub(crate) fn long_run(bytes: &[u8], start: usize) -> usize
     requires { start ≤ length bytes.now }
@@ -128,12 +145,12 @@ pub(crate) fn long_run(bytes: &[u8], start: usize) -> usize
     ensures last { result < 255 → IsDense (take 8 (drop (start + 8 * result) bytes.now)) → ⊥ }
 {
     let mut count = 0;
-    while count < 255 {
-        let step = raw_step(bytes, start + 8 * count, 255 - count);
-        if step == 0 {
+    while count < 248 {
+        let step = raw_step(bytes, start + 8 * count);
+        count += step;
+        if step < 8 {
             return count;
         }
-        count += step;
     }
-    count
+    count + raw_step(bytes, start + 8 * count).min(255 - count)
 }

@@ -1,7 +1,7 @@
 //! The tags of one word and of eight words, read from the sign bits of vector lanes.
-ghost use Rattle.std.specs.Prelude.{◌≡◌, true};
+ghost use Rattle.std.specs.Prelude.{◌≡◌, ◌+◌, ◌*◌, ◌<◌, ◌≤◌, length, take, drop, replicate};
 ghost use Rattle.capn_pack.specs.Packed.{tag_of};
-ghost use Rattle.capn_pack.specs.Chosen.{AllDense};
+ghost use Rattle.capn_pack.specs.Chosen.{AllDense, IsDense};
 
 use std::simd::prelude::*;
 
@@ -20,7 +20,7 @@ pub(crate) fn tag(bytes: &[u8; 8]) -> u8
 
 /// Returns the tags of the eight words of `bytes`. The tag of the first word is in the least significant bits.
 #[inline(always)]
-pub(crate) fn eight_tags(bytes: &[u8; 64]) -> u64
+fn eight_tags(bytes: &[u8; 64]) -> u64
     ensures { result ≡ tag_of bytes.now }
 {
     u8x64::from_array(*bytes)
@@ -28,15 +28,36 @@ pub(crate) fn eight_tags(bytes: &[u8; 64]) -> u64
         .to_bitmask()
 }
 
-/// Returns whether each of the eight words of `bytes` has at most one zero byte.
-///
-/// A tag has at most one bit that is 0 exactly if setting its lowest such bit gives 255. All eight tags are tested in
-/// the lanes of one vector, without a branch on any of them.
+/// Returns how many of the eight words of `bytes` are zero before the first word that is not.
 #[inline(always)]
-pub(crate) fn eight_dense(bytes: &[u8; 64]) -> bool
-    ensures { result ≡ true → AllDense 8 bytes.now }
+pub(crate) fn first_zeros(bytes: &[u8; 64]) -> usize
+    ensures most { result ≤ 8 }
+    ensures zeros { take (8 * result) bytes.now ≡ replicate (8 * result) 0 }
+    ensures last { result < 8 → take 8 (drop (8 * result) bytes.now) ≡ replicate 8 0 → ⊥ }
 {
-    let tags = u8x8::from_array(eight_tags(bytes).to_le_bytes());
-    let filled = (tags | (tags + u8x8::splat(1))).to_array();
-    u64::from_le_bytes(filled) == u64::MAX
+    let tags = eight_tags(bytes);
+    // The test costs less than the count, and its result is mostly the same.
+    if tags == 0 {
+        return 8;
+    }
+    tags.trailing_zeros() as usize / 8
+}
+
+/// Returns how many of the eight words of `bytes` are dense before the first word that is not.
+///
+/// A tag has at most one bit that is 0 exactly if adding 1 to its seven lowest bits sets all bits that are 0. No sum
+/// has more than eight bits, so one addition serves for all eight tags.
+#[inline(always)]
+pub(crate) fn first_dense(bytes: &[u8; 64]) -> usize
+    ensures most { result ≤ 8 }
+    ensures dense { AllDense result (take (8 * result) bytes.now) }
+    ensures last { result < 8 → IsDense (take 8 (drop (8 * result) bytes.now)) → ⊥ }
+{
+    let tags = eight_tags(bytes);
+    let gaps = !(tags | ((tags & 0x7F7F_7F7F_7F7F_7F7F) + 0x0101_0101_0101_0101));
+    // The test costs less than the count, and its result is mostly the same.
+    if gaps == 0 {
+        return 8;
+    }
+    gaps.trailing_zeros() as usize / 8
 }

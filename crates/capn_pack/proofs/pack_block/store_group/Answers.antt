@@ -3,8 +3,8 @@ use Rattle.capn_pack.specs.Packed.{tag_of, named_bytes}
 use Rattle.capn_pack.proofs.PutLemmas.{puts_named}
 use Rattle.capn_pack.proofs.pack_block.store_group.Goals as goal
 
-pub returns-in_default-clause-some : goal.returns-in_default-clause-some
-returns-in_default-clause-some c =
+pub returns-in-1-to-254-clause-some : goal.returns-in-1-to-254-clause-some
+returns-in-1-to-254-clause-some c =
     let tag = c.tag-tag.result in
     let front = take c.args.fill c.args.block.now in
     puts_named c.args.bytes.now c.args.at tag front _ c.requires.inside (c.tag-tag.ensures

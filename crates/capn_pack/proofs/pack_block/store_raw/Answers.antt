@@ -17,5 +17,5 @@ returns-clause-some c =
     c.store.ensures front in
     puts_raw bytes at more _ _ c.requires.inside c.requires.tag (omega arith) run.inside run.dense
     (λ less. c.raw_run-more.ensures.last (omega arith))
-    (raw_packed bytes block c.store.new.block c.store_bytes.new.block c.store_bytes-2.new.block at more fill
-    (omega arith) (omega arith) (omega arith) head c.store_bytes.ensures c.store_bytes-2.ensures)
+    (raw_packed bytes block c.store.new.block c.store_bytes.new.block c.store_words.new.block at more fill head
+    c.store_bytes.ensures c.store_words.ensures)
