@@ -9,3 +9,4 @@ pub mod OnlySegment
 pub mod ReadInput
 pub mod Compared
 pub mod IntoBuffers
+pub mod Verdicts

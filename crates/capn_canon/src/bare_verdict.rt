@@ -13,7 +13,9 @@ ghost use Rattle.capn_canon.specs.Refusal.{IsRefused, IsPaidWithin};
 ghost use Rattle.capn_canon.specs.declared.form.Form.TheVariants as forms;
 ghost use Rattle.capn_canon.specs.declared.refusal.Refusal.TheVariants as refusals;
 ghost use Rattle.capn_canon.specs.BareVerdict.{SaysCanonical, IsBareSurvey};
+ghost use Rattle.capn_canon.specs.inner.BareTold.{IsVerdictOf};
 
+use crate::asked_input::{AskedInput, InputTask};
 use crate::canonical_survey::measure_root;
 use crate::counted_words::CountedWords;
 use crate::refusal::Refusal;
@@ -149,6 +151,38 @@ pub fn survey_bare_counted<S: Space, L: Ledger>(
     })
 }
 
+/// Returns whether a message of one segment is canonical, by its survey `told`. A value with a capability is refused.
+#[inline(always)]
+fn verdict_of(told: Result<SurveyedBare, Stopped>) -> Result<bool, Refusal>
+    ensures { IsVerdictOf told result }
+{
+    let checked = told?;
+    match checked.capability {
+        Some(index) => Err(Refusal::Capability(index)),
+        None => Ok(checked.is_canonical),
+    }
+}
+
+/// The task of `are_canonical_of`: tests whether the message that was read is canonical.
+#[derive(Clone, Copy)]
+struct Verdict;
+
+impl InputTask for Verdict {
+    type Answer = bool;
+
+    ghost use Rattle.std.specs.Prelude.{◌≡◌, ◌+◌, ◌*◌, ℕ, List, [], ◌∷◌};
+    ghost use Rattle.capn_canon.specs.inner.BareTold.{IsVerdict};
+
+    ghost answers = { λ _ m limits r _. (words : List ℕ) → m ≡ words ∷ [] → IsVerdict words limits r };
+
+    ghost most = { λ limits. 24 * (limits.budget + 1) + 1 + 1 };
+
+    #[inline(always)]
+    fn run_asked<M: Asked>(&mut self, message: M, limits: Limits) -> Result<bool, Refusal> {
+        verdict_of(message.ask(BareTask { limits }))
+    }
+}
+
 /// Tests whether `bytes`, read bare within `limits`, are the canonical bytes of the value that `bytes` denote. There is
 /// no allocator, so no memory is allocated.
 pub fn are_canonical(bytes: &[u8], limits: Limits) -> Result<bool, Refusal>
@@ -164,12 +198,33 @@ pub fn are_canonical(bytes: &[u8], limits: Limits) -> Result<bool, Refusal>
     // `Memory` is never returned, whatever the depth.
     ensures no_memory { IfErr result (λ e. e ≢ refusals.Memory) }
 {
-    let space = Bare::new(bytes)?;
-    let checked = survey_bare_of(&space, limits)?;
-    match checked.capability {
-        Some(index) => Err(Refusal::Capability(index)),
-        None => Ok(checked.is_canonical),
-    }
+    are_canonical_of(bytes, limits)
+}
+
+/// Tests whether `bytes`, read bare within `limits`, are the canonical bytes of the value that `bytes` denote. Returns
+/// the result of [`are_canonical`], which is this call on a slice.
+///
+/// Here `bytes` are any [`AskedInput`], so the clause `work` bounds how often the message is read. There is no
+/// allocator, so no memory is allocated. (Our own.)
+#[inline(always)]
+pub fn are_canonical_of<B: AskedInput>(bytes: B, limits: Limits) -> Result<bool, Refusal>
+    // The message must allow 24 * (budget + 1) + 1 reads and turns of loops, and one more to start the count. A slice
+    // allows any number.
+    requires work { B.allows bytes (24 * (limits.budget + 1) + 1 + 1) }
+    // If `result` is `Ok`, the bytes denote one value, which has no capability, and `result` says whether the bytes are
+    // the canonical bytes of that value.
+    ensures found { IfOk result (λ yes. SaysCanonical (B.bytes bytes) limits yes) }
+    // If the bytes denote a value without capabilities, `result` is `Ok` (`no_memory` excludes `Memory`).
+    ensures only { (v : Value) → Denotes forms.Bare (B.bytes bytes) limits v → first_cap v ≡ None
+        → MatchResult result (λ yes. IsTrue yes ↔ (canon v ≡ (B.bytes bytes))) (λ e. e ≡ refusals.Memory) }
+    // If `result` is `Err(e)`, the reason that `e` gives is true.
+    ensures refused { IfErr result (λ e. IsRefused forms.Bare (B.bytes bytes) limits e) }
+    ensures bounded { IfErr result (λ e. IsPaidWithin limits.budget e) }
+    // `Memory` is never returned, whatever the depth.
+    ensures no_memory { IfErr result (λ e. e ≢ refusals.Memory) }
+{
+    let (answer, _task) = bytes.ask_bare(Verdict, limits);
+    answer
 }
 
 /// Tests whether `bytes`, read bare within `limits`, are canonical, by [`are_canonical`]. The allocator is not used.

@@ -21,6 +21,9 @@
 //! - [`own_canonical`] returns the bytes of a message if the message is canonical already, and copies nothing.
 //!   [`measure`] reports the price, the number of visits and the depth of a message, and whether it is canonical.
 //! - [`run_task`] reads bytes in a form as a message, and returns the answer of a [`MessageTask`] for it.
+//! - [`canonicalise_of`], [`survey_bytes_of`] and [`are_canonical_of`] are the calls without `_of`, on an
+//!   [`AskedInput`]. It is read as a message once, and the message is read only through a counter. So the budget bounds
+//!   how often these calls read the message.
 //! - [`survey_bytes`] and [`survey`] report the price of a message, the number of visits and the first capability.
 //!   Neither makes canonical bytes.
 //! - [`layout`] writes the canonical bytes of a tree: one segment, its objects in preorder. A struct has no trailing
@@ -62,6 +65,7 @@
 //! ```
 #![tactic(auto)]
 
+mod asked_input;
 mod bare_verdict;
 mod canonical;
 mod canonical_input;
@@ -87,11 +91,12 @@ mod surveyed_bare;
 mod value_survey;
 mod written_bytes;
 
+pub use asked_input::{AskedInput, InputTask};
 pub use bare_verdict::{
-    are_canonical, is_canonical, survey_bare, survey_bare_counted, survey_bare_of,
+    are_canonical, are_canonical_of, is_canonical, survey_bare, survey_bare_counted, survey_bare_of,
 };
 pub use canonical::{Canonical, canonical_of, canonical_of_counted};
-pub use canonical_input::canonicalise;
+pub use canonical_input::{canonicalise, canonicalise_of};
 pub use canonical_survey::{
     measure_canonical, measure_canonical_counted, survey_canonical, survey_canonical_counted,
 };
@@ -105,7 +110,7 @@ pub use message_survey::survey;
 pub use one_segment::{OwnCanonical, own_canonical};
 pub use refusal::Refusal;
 pub use same_refusal::{SameRefusal, Side};
-pub use survey_input::survey_bytes;
+pub use survey_input::{survey_bytes, survey_bytes_of};
 pub use surveyed_bare::{MeasuredBare, SurveyedBare};
 pub use written_bytes::{canonical_into, canonical_into_counted};
 

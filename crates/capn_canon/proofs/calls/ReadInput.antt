@@ -1,5 +1,5 @@
 -- A result for a message is also a result for the bytes that are read as that message. Bytes that can't be read are
--- refused. (For `canonical_input.rt`, `input.rt` and `survey_input.rt`.)
+-- refused. (For `canonical_input.rt`, `input.rt`, `survey_input.rt` and `Verdicts`.)
 use Rattle.std.proofs.Common.{◌≡◌, ℕ, ◌+◌, ◌≤◌, inl, inr, List, refl, sym, subst, Result, Ok, Err, IfOk, IfErr}
 use Rattle.std.proofs.Common.{IsErrAnd, IsErrOf, MatchResult}
 use Rattle.capn_pack.specs.UnpackRefusal.{IsUnpackRefused, StartsWithin}
@@ -40,7 +40,7 @@ unread_so bs text limits (refusals.Packed e) u h = absurd h
 unread_so bs text limits (refusals.Walk s) u h = absurd h
 unread_so bs text limits (refusals.Capability k) u h = absurd h
 
-no-walk : (form : Form) (bs : List ℕ) (limits : Bounds) (e : Refusal) → IsRefusedReading form bs limits e
+pub no-walk : (form : Form) (bs : List ℕ) (limits : Bounds) (e : Refusal) → IsRefusedReading form bs limits e
     → IsUnacceptedIn form bs limits e × IsPaidWithin limits.budget e
 no-walk form bs limits refusals.Memory h = (tt, tt)
 no-walk form bs limits (refusals.Frame e) h = (h, tt)
@@ -54,7 +54,7 @@ no-walk forms.Bare bs limits (refusals.Capability k) h = absurd h
 no-walk forms.Stream bs limits (refusals.Capability k) h = absurd h
 no-walk forms.Packed bs limits (refusals.Capability k) h = absurd h.2
 
-refused-in : (form : Form) (bs : List ℕ) (limits : Bounds) (e : Refusal) → IsUnacceptedIn form bs limits e
+pub refused-in : (form : Form) (bs : List ℕ) (limits : Bounds) (e : Refusal) → IsUnacceptedIn form bs limits e
     → IsRefused form bs limits e
 refused-in form bs limits refusals.Memory h = tt
 refused-in form bs limits (refusals.Frame e) h = h
