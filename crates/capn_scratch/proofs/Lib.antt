@@ -1,3 +1,4 @@
+mod Agreed
 mod Decided
 mod EndWords
 mod Forms

@@ -5,3 +5,4 @@ pub mod FormRefusal
 pub mod Theorem
 pub mod Display
 pub mod Laws
+pub mod Agreement
