@@ -61,7 +61,7 @@ enum capn_tariff {
 /* The format of capn_show. */
 enum capn_style {
     CAPN_STYLE_LINES = 0,    /* lines, with lists of bytes in hexadecimal: as `capn show` */
-    CAPN_STYLE_TEXT = 1,     /* the same, but with lists of printable bytes in quotes: as `capn show --text` */
+    CAPN_STYLE_TEXT = 1,     /* the same, but with lists of bytes that are texts in quotes: as `capn show --text` */
     CAPN_STYLE_JSON = 2,     /* one line of JSON: as `capn show --json` */
     CAPN_STYLE_JSON_TEXT = 3 /* the same, but with each UTF-8 Text as a string: as `capn show --json --text` */
 };

@@ -441,7 +441,7 @@ struct checked {
 /* How the dump of a message is written. */
 enum class style : std::uint32_t {
     lines = CAPN_STYLE_LINES,        /* lines, with lists of bytes in hexadecimal */
-    text = CAPN_STYLE_TEXT,          /* the same, but with lists of printable bytes in quotes */
+    text = CAPN_STYLE_TEXT,          /* the same, but with lists of bytes that are texts in quotes */
     json = CAPN_STYLE_JSON,          /* one line of JSON */
     json_text = CAPN_STYLE_JSON_TEXT /* the same, but with each UTF-8 Text as a string */
 };

@@ -246,7 +246,7 @@ func TestShow(t *testing.T) {
 		{list, Bare, JSON, "{\"bytes\":\"686900\"}\n"},
 		{list, Bare, JSONText, "{\"text\":\"hi\"}\n"},
 		{letter, Bare, JSONText, "{\"text\":\"ä\"}\n"},
-		{letter, Bare, Text, "bytes 3\n  c3a400\nend\n"},
+		{letter, Bare, Text, "bytes 3 \"ä\\0\"\nend\n"},
 		{long, Bare, JSONText, "{\"bytes\":\"" + strings.Repeat("00", 8000) + "\"}\n"},
 		{bits, Bare, Lines, "bits 64000\n  " + strings.Repeat("0", 64000) + "\nend\n"},
 		{long, Bare, JSON, "{\"bytes\":\"" + strings.Repeat("00", 8000) + "\"}\n"},

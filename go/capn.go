@@ -39,7 +39,7 @@ type Style uint32
 
 const (
 	Lines    Style = iota // lines, with the digits of each list of bytes: as `capn show` writes it
-	Text                  // the same, but a list of printable bytes stands between quotes: as `capn show --text`
+	Text                  // the same, but a list of bytes that is a text stands in quotes: as `capn show --text`
 	JSON                  // one line of JSON: as `capn show --json`
 	JSONText              // the same, but a text in UTF-8 with its zero is a text: as `capn show --json --text`
 )

@@ -10,9 +10,12 @@ from ._limits import Limits
 from ._message import Message, Object, Row, read
 from ._refusal import refused
 
-_ESCAPED = {ord('"'): '\\"', ord("\\"): "\\\\", 0: "\\0"}
 _JSON_ESCAPED = {ord('"'): '\\"', ord("\\"): "\\\\", 9: "\\t", 10: "\\n", 13: "\\r"}
-# What is no text in JSON: control characters, but tab, newline and carriage return.
+# Code points that nobody sees, or that turn what others see. Between quotes they are written as their numbers.
+_HIDDEN = (0xAD, 0x61C, 0x180E, *range(0x200B, 0x2010), *range(0x2028, 0x202F), *range(0x2060, 0x2070), 0xFEFF,
+           *range(0xFFF9, 0xFFFC), *range(0xE0000, 0xE0080))
+_ESCAPED = {**_JSON_ESCAPED, 0: "\\0", **{code: f"\\u{{{code:x}}}" for code in _HIDDEN}}
+# What is in no text in UTF-8: control characters, but tab, newline and carriage return.
 _CONTROLS = frozenset(map(chr, (*range(0x20), *range(0x7F, 0xA0)))) - {*"\t\n\r"}
 _STYLES = {
     (False, False): lib.CAPN_STYLE_LINES,
@@ -114,22 +117,29 @@ def _digits(bits: Any) -> str:
 
 
 def _quoted(view: memoryview) -> str | None:
-    """What is between the quotes of a text: bytes of printable ASCII, of which the last may be zero. None of others."""
-    most = len(view) - 1
-    if most < 0 or not all(0x20 <= byte <= 0x7E or byte == 0 and i == most for i, byte in enumerate(view)):
-        return None
-    return view.tobytes().decode("ascii").translate(_ESCAPED)
+    """What is between the quotes of a text: UTF-8 without control characters, and a zero after it; or bytes of
+    printable ASCII. None of others."""
+    if view and all(0x20 <= byte <= 0x7E for byte in view):
+        return str(view, "ascii").translate(_ESCAPED)
+    text = _clear(view)
+    return None if text is None else f"{text}\0".translate(_ESCAPED)
 
 
-def _text_of(view: memoryview) -> str | None:
-    """The text that bytes are in JSON: UTF-8 without control characters, and a zero after it. None of others."""
+def _clear(view: memoryview) -> str | None:
+    """The text that bytes are before a zero at their end: UTF-8 without control characters. None of others."""
     if not view or view[-1]:
         return None
     try:
         text = str(view[:-1], "utf-8")
     except UnicodeDecodeError:
         return None
-    return None if _CONTROLS.intersection(text) else text.translate(_JSON_ESCAPED)
+    return None if _CONTROLS.intersection(text) else text
+
+
+def _text_of(view: memoryview) -> str | None:
+    """The text that bytes are in JSON: UTF-8 without control characters, and a zero after it. None of others."""
+    text = _clear(view)
+    return None if text is None else text.translate(_JSON_ESCAPED)
 
 
 def _json(found: Any, is_text: bool) -> Iterator[str]:

@@ -302,15 +302,27 @@ def canonical(value):
 # Dumps.
 
 
+# The code points that are written as their numbers between quotes: nobody sees them, or they turn what others see.
+HIDDEN = [
+    *[(it, it) for it in (0xAD, 0x61C, 0x180E, 0xFEFF)],
+    (0x200B, 0x200F), (0x2028, 0x202E), (0x2060, 0x206F), (0xFFF9, 0xFFFB), (0xE0000, 0xE007F),
+]
+ESCAPES = {'"': '\\"', "\\": "\\\\", "\t": "\\t", "\n": "\\n", "\r": "\\r", "\0": "\\0"}
+
+
 def quoted(items):
     """Returns what `show --text` prints between quotes for a list of bytes. Returns None if `show --text` prints the
     list in hexadecimal."""
-    if not items or not all(0x20 <= byte <= 0x7E for byte in items[:-1]):
-        return None
-    if items[-1] and not 0x20 <= items[-1] <= 0x7E:
-        return None
-    escapes = {ord('"'): '\\"', ord("\\"): "\\\\", 0: "\\0"}
-    return "".join(escapes.get(byte, chr(byte)) for byte in items)
+    ascii_front = all(0x20 <= byte <= 0x7E for byte in items[:-1])
+    if items and ascii_front and (items[-1] == 0 or 0x20 <= items[-1] <= 0x7E):
+        text = bytes(items).decode("ascii")
+    else:
+        front = text_of(items)
+        if front is None:
+            return None
+        text = front + "\0"
+    hidden = lambda it: any(low <= ord(it) <= high for low, high in HIDDEN)
+    return "".join(f"\\u{{{ord(it):x}}}" if hidden(it) else ESCAPES.get(it, it) for it in text)
 
 
 def shown(value, level=0, with_texts=False):

@@ -107,13 +107,14 @@ class Shown(unittest.TestCase):
                     shown += 1
         self.assertGreater(shown, 2000)
 
-    def test_texts_in_json(self):
+    def test_texts(self):
         # The C library dumps whole messages, and the Python package dumps parts. Both are compared with the Python
         # model.
-        source, texts = random.Random(10), 0
-        some = ["", "a", "ä", "€", "😀", '"', "\\", "\t", "\n", "\r", "\0", "\x07", "\x7f", "\x80", "\x9f", "\xa0"]
+        source, texts, quoted = random.Random(10), 0, 0
+        some = ["", "a", "ä", "€", "😀", '"', "\\", "\t", "\n", "\r", "\xad", "\u200b", "\u202e", "\ufeff", "\U000e007f",
+                "\0", "\x07", "\x7f", "\x80", "\x9f", "\xa0"]
         for _ in range(2000):
-            data = "".join(source.choices(source.choice([some, some[:10]]), k=source.randint(0, 4))).encode()
+            data = "".join(source.choices(source.choice([some, some[:15]]), k=source.randint(0, 4))).encode()
             data += source.choice([b"\0"] * 4 + [b"", b"\0\0", b"\xc3\0", b"\xed\xa0\x80\0", b"\xc0\x80\0"])
             pointer = 1 | 2 << 32 | len(data) << 35
             words = pointer.to_bytes(8, "little") + data + bytes(-len(data) % 8)
@@ -122,7 +123,12 @@ class Shown(unittest.TestCase):
                 self.assertEqual(capn.show(words, "bare", text=True, json=True), wanted)
                 self.assertEqual(capn.show(capn.read(words, "bare").root, text=True, json=True), wanted)
                 texts += "text" in wanted
+                wanted = model.styled(("bytes", list(data)), "text")
+                self.assertEqual(capn.show(words, "bare", text=True), wanted)
+                self.assertEqual(capn.show(capn.read(words, "bare").root, text=True), wanted)
+                quoted += '"' in wanted
         self.assertGreater(texts, 400)
+        self.assertGreater(quoted, 400)
 
     def test_a_closed_message(self):
         message = capn.read(bytes(8), "bare")

@@ -50,7 +50,8 @@ packed, or as they are. A message is written once its line `end` is read, and
 with `--form bare` at the end of the input. An error names the line that is
 wrong by its number, counted from 1. A count allocates nothing by itself.
 With `--text` a list of bytes may also take one line, as in `show --text`:
-`bytes 3 \"ab\\0\"`, with its count or without it. A wrong count is an error.
+`bytes 3 \"ab\\0\"`, with its count or without it. A wrong count is an error, and
+so is any spelling that `show --text` doesn't write.
 
 Exit status:
   0  Done

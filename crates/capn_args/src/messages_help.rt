@@ -17,9 +17,12 @@ To go on with other tools, or to see the offset and the path of each part:
 as soon as it is complete. With `--one` the whole input is read first, and
 nothing is written unless it is exactly one message.
 With `--text` a list of bytes that is a text takes one line, as in
-`bytes 3 \"hi\\0\"`. Each byte but the last is from 0x20 to 0x7e, and the last one
-is also from this range, or zero. A quote is written `\\\"`, a backslash `\\\\`, and
-a zero at the end `\\0`.
+`bytes 3 \"hi\\0\"`. A text is UTF-8 without control characters other than tab,
+newline and carriage return, and then a zero; or ASCII from 0x20 to 0x7e with or
+without a zero at the end. A quote is written `\\\"`, a backslash `\\\\`, a tab
+`\\t`, a newline `\\n`, a carriage return `\\r`, and a zero at the end `\\0`. A
+character that nobody sees, or that turns the direction of the line, is written
+as its number: `\\u{202e}`.
 With `--json` each message is one line of JSON without blanks, and no line `end`
 follows. With `--json --text` a list of bytes that is a text is
 `{\"text\":\"T\"}`. Its last byte is zero. T is all bytes before that one: UTF-8

@@ -21,8 +21,9 @@ use std::io::{Read, Write};
 /// The call reads, writes and takes memory like [`crate::make`]. In addition it stores eight bytes for each line
 /// between quotes in the texts that have no message yet. They serve to find the line of the input that is refused. The
 /// unfinished line is also stored while its first 1,024 bytes may begin a line between quotes. Such a beginning is an
-/// indent, `bytes ` and a quote or a digit, or a prefix of these. A line between quotes may be of any length, and is
-/// not read before its end. Any other line is read as it arrives.
+/// indent, `bytes `, a count or none, and bytes of a text between quotes, or a prefix of these. A line between quotes
+/// may be of any length, and is not read before its end. A line whose first 1,024 bytes have a wrong byte is read as
+/// it arrives, like any other line.
 pub fn make_texts<R: Read, W: Write, A: Allocator + Copy>(
     alloc: A,
     form: Form,

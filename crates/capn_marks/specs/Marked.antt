@@ -16,7 +16,8 @@ use Rattle.capn_target.specs.Target.{target}
 use Rattle.capn_walk.specs.Accepted.{root}
 use Rattle.capn_walk.specs.View.{step_place, row_of}
 use Rattle.capn_show.specs.Descent.{begin, named_by}
-use Rattle.capn_show.specs.Quoting.{is_text, quoted_line}
+use Rattle.capn_quoted.specs.Texts.{is_text}
+use Rattle.capn_show.specs.Quoting.{quoted_line}
 use Rattle.capn_marks.specs.declared.marks.Marks.{Marks}
 
 -- ---- paths and places

@@ -6,7 +6,8 @@ ghost use Rattle.capn_marks.specs.MarkedPlaces.{CountsBefore};
 
 use crate::marks::{Marks, path_length, put_mark, step_below};
 use crate::starts::byte_of;
-use capn_show::{Broken, Emitter, Piece, is_text, put_line_piece, show_quoted};
+use capn_quoted::is_text;
+use capn_show::{Broken, Emitter, Piece, put_line_piece, show_quoted};
 use capn_words::{Place, Space, Watched};
 use std::alloc::Allocator;
 use std::io::Write;

@@ -1,12 +1,11 @@
 -- Lemmas for `bits.rt`, `byte_digits.rt` and `escapes.rt`: a loop that appends a text for each element of a list.
-use Rattle.std.proofs.Common.{◌≡◌, ℕ, ◌+◌, ◌<◌, List, [], ◌∷◌, ◌++◌, Bool}
-use Rattle.std.proofs.Common.{length, take, drop}
-use Rattle.std.proofs.Common.{get_or, refl, sym, ap, ◌∙◌, arith, append_assoc}
+use Rattle.std.proofs.Common.{◌≡◌, ℕ, ◌+◌, ◌<◌, List, [], ◌∷◌, ◌++◌, Bool, length, take, drop, get_or, refl, sym, ap}
+use Rattle.std.proofs.Common.{◌∙◌, arith, append_assoc}
 use Rattle.std.proofs.Math.Seq.{take-add}
 use Rattle.std.proofs.lemmas.List.{append-nil, take_all, take_more, take-append-drop}
 use Rattle.hex.specs.Hex.{encode_lower}
 use Rattle.capn_value.specs.Text.{digit, digits_of}
-use Rattle.capn_show.specs.Quoting.{escapes_by}
+use Rattle.capn_show.specs.JsonTexts.{json_escaped, json_escapes}
 use Rattle.capn_show.specs.declared.fault.Broken.{Broken}
 use Rattle.capn_show.specs.Outgoing.{Outgoing, Adds, BreaksOff}
 use Rattle.capn_show.proofs.shared.Appended.{both, otherwise, otherwise-broken, then-broken, broken-before}
@@ -69,38 +68,39 @@ encode_lower-joined (x ∷ xs) ys =
     ∙ sym (append_assoc (encode_lower (x ∷ [])) (encode_lower xs) (encode_lower ys))
     ∙ ap (λ (l : List ℕ). l ++ encode_lower ys) (sym (encode_lower-cons x xs))
 
-module _ (by : ℕ → List ℕ) (p q : Outgoing) where
+module _ (p q : Outgoing) where
   module _ (xs : List ℕ) (i : ℕ) where
-    pub escapes-more : (r : Outgoing) (x : ℕ) → i < length xs → x ≡ get_or xs i 0 → Adds p q (escapes_by by (take i xs))
-        → Adds q r (by x) → Adds p r (escapes_by by (take (i + 1) xs))
+    pub escapes-more : (r : Outgoing) (x : ℕ) → i < length xs → x ≡ get_or xs i 0 → Adds p q (json_escapes (take i xs))
+        → Adds q r (json_escaped x) → Adds p r (json_escapes (take (i + 1) xs))
     escapes-more r x below e h k =
-        more (escapes_by by) (escapes-joined by) p q xs i r 0 below h
-        (otherwise q r (by x) (escapes_by by (get_or xs i 0 ∷ [])) (ap by e ∙ sym (append-nil (by (get_or xs i 0)))) k)
+        more json_escapes escapes-joined p q xs i r 0 below h
+        (otherwise q r (json_escaped x) (json_escapes (get_or xs i 0 ∷ []))
+        (ap json_escaped e ∙ sym (append-nil (json_escaped (get_or xs i 0)))) k)
 
     pub escapes-cut : (r : Outgoing) (e : Broken) (x : ℕ) → i < length xs → x ≡ get_or xs i 0
-        → Adds p q (escapes_by by (take i xs)) → BreaksOff q r e (by x) → BreaksOff p r e (escapes_by by xs)
+        → Adds p q (json_escapes (take i xs)) → BreaksOff q r e (json_escaped x) → BreaksOff p r e (json_escapes xs)
     escapes-cut r e x below is h k =
-        cut (escapes_by by) (escapes-joined by) p q xs i r e 0 below h
-        (otherwise-broken q r e (by x) (escapes_by by (get_or xs i 0 ∷ []))
-        (ap by is ∙ sym (append-nil (by (get_or xs i 0)))) k)
+        cut json_escapes escapes-joined p q xs i r e 0 below h
+        (otherwise-broken q r e (json_escaped x) (json_escapes (get_or xs i 0 ∷ []))
+        (ap json_escaped is ∙ sym (append-nil (json_escaped (get_or xs i 0)))) k)
 
-    pub escapes-all : i ≡ length xs → Adds p q (escapes_by by (take i xs)) → Adds p q (escapes_by by xs)
-    escapes-all = all (escapes_by by) (escapes-joined by) p q xs i
+    pub escapes-all : i ≡ length xs → Adds p q (json_escapes (take i xs)) → Adds p q (json_escapes xs)
+    escapes-all = all json_escapes escapes-joined p q xs i
 
     -- Let `rest` be `xs` without its first `i` bytes. Let the first `k` bytes of `rest` need no escape.
     module _ (r : Outgoing) (k : ℕ) (rest : List ℕ) (left : rest ≡ drop i xs)
-        (bare : escapes_by by (take k rest) ≡ take k rest) where
-      run-is : take k rest ≡ escapes_by by (take k (drop i xs))
-      run-is = sym bare ∙ ap (λ (l : List ℕ). escapes_by by (take k l)) left
+        (bare : json_escapes (take k rest) ≡ take k rest) where
+      run-is : take k rest ≡ json_escapes (take k (drop i xs))
+      run-is = sym bare ∙ ap (λ (l : List ℕ). json_escapes (take k l)) left
 
-      pub bare-more : Adds p q (escapes_by by (take i xs)) → Adds q r (take k rest)
-          → Adds p r (escapes_by by (take (i + k) xs))
-      bare-more h j = block-more (escapes_by by) (escapes-joined by) p q r xs i k h (otherwise q r _ _ run-is j)
+      pub bare-more : Adds p q (json_escapes (take i xs)) → Adds q r (take k rest)
+          → Adds p r (json_escapes (take (i + k) xs))
+      bare-more h j = block-more json_escapes escapes-joined p q r xs i k h (otherwise q r _ _ run-is j)
 
-      pub bare-cut : (e : Broken) → Adds p q (escapes_by by (take i xs)) → BreaksOff q r e (take k rest)
-          → BreaksOff p r e (escapes_by by xs)
+      pub bare-cut : (e : Broken) → Adds p q (json_escapes (take i xs)) → BreaksOff q r e (take k rest)
+          → BreaksOff p r e (json_escapes xs)
       bare-cut e h j =
-          block-cut (escapes_by by) (escapes-joined by) p q r xs i k e h (otherwise-broken q r e _ _ run-is j)
+          block-cut json_escapes escapes-joined p q r xs i k e h (otherwise-broken q r e _ _ run-is j)
 
 module _ (p q : Outgoing) where
   module _ (xs : List ℕ) where

@@ -8,6 +8,7 @@ use Rattle.capn_value.specs.NumberWidth.{NumberWidth, bit, byte, pair, quad, oct
 use Rattle.capn_value.specs.Tree.{Tree, nil, node, voids, numbers, links, rows, cap, Trees}
 use Rattle.capn_value.specs.Tree.{no_trees, tree, Bodies, no_bodies, body}
 use Rattle.capn_value.specs.Text.{digits_of}
+use Rattle.capn_quoted.specs.Texts.{is_clear_text}
 use Rattle.capn_target.specs.declared.target.Target.{Target}
 use Rattle.capn_target.specs.Target.{target}
 use Rattle.capn_walk.specs.View.{step_place, row_of}
@@ -16,7 +17,7 @@ use Rattle.capn_show.specs.Emitted.{Rule, emitted, emitted_slots, emitted_rows, 
 use Rattle.capn_show.specs.Emitted.{emitted_digits, emitted_numbers, digit_lines}
 use Rattle.capn_show.specs.Json.{after_commas, with_commas, word_text, number_text, struct_text, digits_json}
 use Rattle.capn_show.specs.Json.{json_by, each_json_by, each_row_by}
-use Rattle.capn_show.specs.JsonTexts.{is_json_text, text_json}
+use Rattle.capn_show.specs.JsonTexts.{text_json}
 use Rattle.capn_show.specs.inner.JsonRule.{json_rule, bytes_json_of}
 use Rattle.capn_show.proofs.TextDigits.{encode_lower-none}
 
@@ -79,10 +80,10 @@ module _ (asked : Bool) where
       ∙ closed (codes "{\"bytes\":\"") (encode_lower xs) 34
 
   chosen-in : (text : Bool) (level : ℕ) (path : List ℕ) (at : ℕ) (xs : List ℕ)
-      → (if (if text then is_json_text xs else false) then text_json xs else digit_lines rule level path at xs)
+      → (if (if text then is_clear_text xs else false) then text_json xs else digit_lines rule level path at xs)
       ≡ bytes_json_of text xs
   chosen-in true level path at xs =
-      ap (λ (l : List ℕ). if is_json_text xs then text_json xs else l) (digits-in level path at xs)
+      ap (λ (l : List ℕ). if is_clear_text xs then text_json xs else l) (digits-in level path at xs)
   chosen-in false level path at xs = digits-in level path at xs
 
   list-in : (a : NumberWidth) (level : ℕ) (path : List ℕ) (at : ℕ) (xs : List ℕ)

@@ -2,7 +2,6 @@ pub mod shared
 mod TextDigits
 mod LineTexts
 mod TextBytes
-mod ClearTexts
 mod Grown
 mod SlotTexts
 mod ItemTexts

@@ -6,8 +6,8 @@ use Rattle.std.proofs.lemmas.List.{append_cancel_left, append_cancel_right}
 use Rattle.hex.specs.Hex.{IsBytes, encode_lower, decode_of}
 use Rattle.hex.proofs.HexLemmas.{decode_of-encode_lower, decode_of-same}
 use Rattle.capn_show.specs.Json.{digits_json}
-use Rattle.capn_show.specs.JsonTexts.{json_escapes, before_last, ends_in_zero, is_clear, is_json_text, text_json}
-use Rattle.capn_show.specs.JsonTexts.{text_or_digits}
+use Rattle.capn_quoted.specs.Texts.{before_last, ends_in_zero, is_clear, is_clear_text}
+use Rattle.capn_show.specs.JsonTexts.{json_escapes, text_json, text_or_digits}
 
 -- ---- the bytes between quotes
 
@@ -84,7 +84,7 @@ and-first : (a b : Bool) → (a && b) ≡ true → a ≡ true
 and-first true b h = refl
 and-first false b h = h
 
-one-by : (xs ys : List ℕ) (x y : Bool) → IsBytes xs → IsBytes ys → is_json_text xs ≡ x → is_json_text ys ≡ y
+one-by : (xs ys : List ℕ) (x y : Bool) → IsBytes xs → IsBytes ys → is_clear_text xs ≡ x → is_clear_text ys ≡ y
     → (if x then text_json xs else digits_json xs) ≡ (if y then text_json ys else digits_json ys) → xs ≡ ys
 one-by xs ys true true p q h k e =
     text-one xs ys (and-first (ends_in_zero xs) (is_clear (before_last xs)) h)
@@ -94,4 +94,4 @@ one-by xs ys false true p q h k e = absurd (apart ys xs (sym e))
 one-by xs ys false false p q h k e = digits-one xs ys p q e
 
 pub one-json : (xs ys : List ℕ) → IsBytes xs → IsBytes ys → text_or_digits xs ≡ text_or_digits ys → xs ≡ ys
-one-json xs ys p q e = one-by xs ys (is_json_text xs) (is_json_text ys) p q refl refl e
+one-json xs ys p q e = one-by xs ys (is_clear_text xs) (is_clear_text ys) p q refl refl e

@@ -2,24 +2,16 @@
 use Rattle.std.proofs.Common.{◌≡◌, ℕ, ◌+◌, ◌<◌, ◌==◌, ◌||◌, List, [], ◌∷◌, ◌++◌, Bool, true, false, if◌then◌else◌}
 use Rattle.std.proofs.Common.{length, take, get_or, ap, ap₂, sym, refl, ◌∙◌, append_assoc}
 use Rattle.std.proofs.lemmas.List.{append-nil, take_more}
-use Rattle.capn_show.specs.Quoting.{escapes_by}
-use Rattle.capn_show.specs.ReadyPlaces.{escaped_of, is_escaped}
+use Rattle.capn_show.specs.JsonTexts.{json_escaped, json_escapes}
+use Rattle.capn_show.specs.ReadyPlaces.{is_escaped}
 
 -- ---- between quotes
 
-pub escapes-joined : (by : ℕ → List ℕ) (xs ys : List ℕ)
-    → escapes_by by (xs ++ ys) ≡ escapes_by by xs ++ escapes_by by ys
-escapes-joined by [] ys = refl
-escapes-joined by (x ∷ xs) ys =
-    ap (λ (l : List ℕ). by x ++ l) (escapes-joined by xs ys)
-    ∙ sym (append_assoc (by x) (escapes_by by xs) (escapes_by by ys))
-
-bare-by : (x y z : Bool) (b : ℕ) → (x || (y || z)) ≡ false →
-    (if x then 92 ∷ 34 ∷ [] else if y then 92 ∷ 92 ∷ [] else if z then 92 ∷ 48 ∷ [] else b ∷ []) ≡ b ∷ []
-bare-by false false false b h = refl
-bare-by false false true b h = absurd (cc)
-bare-by false true z b h = absurd (cc)
-bare-by true y z b h = absurd (cc)
+pub escapes-joined : (xs ys : List ℕ) → json_escapes (xs ++ ys) ≡ json_escapes xs ++ json_escapes ys
+escapes-joined [] ys = refl
+escapes-joined (x ∷ xs) ys =
+    ap (λ (l : List ℕ). json_escaped x ++ l) (escapes-joined xs ys)
+    ∙ sym (append_assoc (json_escaped x) (json_escapes xs) (json_escapes ys))
 
 bare-json : (x y z u v : Bool) (b : ℕ) → (x || (y || (z || (u || v)))) ≡ false →
     (if x then 92 ∷ 34 ∷ [] else if y then 92 ∷ 92 ∷ [] else if z then 92 ∷ 116 ∷ []
@@ -31,19 +23,17 @@ bare-json false false true u v b h = absurd (cc)
 bare-json false true z u v b h = absurd (cc)
 bare-json true y z u v b h = absurd (cc)
 
-bare-one : (json : Bool) (b : ℕ) → is_escaped json b ≡ false → escaped_of json b ≡ b ∷ []
-bare-one false b h = bare-by (b == 34) (b == 92) (b == 0) b h
-bare-one true b h = bare-json (b == 34) (b == 92) (b == 9) (b == 10) (b == 13) b h
+bare-one : (b : ℕ) → is_escaped b ≡ false → json_escaped b ≡ b ∷ []
+bare-one b h = bare-json (b == 34) (b == 92) (b == 9) (b == 10) (b == 13) b h
 
 -- If the first `i` bytes and the next byte need no escape, the first `i + 1` bytes need none.
-pub bare-more : (json : Bool) (xs : List ℕ) (i : ℕ) → i < length xs → is_escaped json (get_or xs i 0) ≡ false
-    → escapes_by (escaped_of json) (take i xs) ≡ take i xs
-    → escapes_by (escaped_of json) (take (i + 1) xs) ≡ take (i + 1) xs
-bare-more json xs i below bare h =
+pub bare-more : (xs : List ℕ) (i : ℕ) → i < length xs → is_escaped (get_or xs i 0) ≡ false
+    → json_escapes (take i xs) ≡ take i xs
+    → json_escapes (take (i + 1) xs) ≡ take (i + 1) xs
+bare-more xs i below bare h =
     let x = get_or xs i 0 in
-    let by = escaped_of json in
     let more = take_more xs i 0 below in
-    ap (escapes_by by) more
-    ∙ escapes-joined by (take i xs) (x ∷ [])
-    ∙ ap₂ (λ (a b : List ℕ). a ++ b) h (append-nil (by x) ∙ bare-one json x bare)
+    ap json_escapes more
+    ∙ escapes-joined (take i xs) (x ∷ [])
+    ∙ ap₂ (λ (a b : List ℕ). a ++ b) h (append-nil (json_escaped x) ∙ bare-one x bare)
     ∙ sym more

@@ -10,11 +10,12 @@ use Rattle.capn_value.specs.NumberWidth.{NumberWidth, bit, byte, pair, quad, oct
 use Rattle.capn_value.specs.Tree.{Tree, nil, node, voids, numbers, links, rows, cap, Trees}
 use Rattle.capn_value.specs.Tree.{no_trees, tree, Bodies, no_bodies, body, count, count_rows}
 use Rattle.capn_value.specs.Text.{line, named, hex16, digits_of, body_line}
+use Rattle.capn_quoted.specs.Texts.{is_text}
 use Rattle.capn_target.specs.declared.target.Target.{Target}
 use Rattle.capn_target.specs.Target.{target}
 use Rattle.capn_walk.specs.View.{step_place, row_of}
 use Rattle.capn_show.specs.Descent.{begin, named_by}
-use Rattle.capn_show.specs.Quoting.{is_text, quoted_line}
+use Rattle.capn_show.specs.Quoting.{quoted_line}
 use Rattle.capn_show.specs.declared.piece.Piece.{Piece}
 use Rattle.capn_show.specs.declared.piece.Piece.TheVariants as pieces
 

@@ -1,36 +1,14 @@
 -- The text of a tree in lines, where lists of bytes are written as digits, or between quotes if they are texts. (Our
 -- own.)
-use Rattle.std.specs.Prelude.{◌≡◌, ℕ, ◌+◌, List, [], ◌∷◌, ◌++◌, length, codes, Bool, true, false, ◌&&◌, ◌||◌, ◌==◌}
-use Rattle.std.specs.Prelude.{nat_le, if◌then◌else◌, refl}
+use Rattle.std.specs.Prelude.{◌≡◌, ℕ, ◌+◌, List, [], ◌∷◌, ◌++◌, length, codes, if◌then◌else◌, refl}
+use Rattle.std.specs.Str.{chars, is_utf8}
 use Rattle.hex.specs.Hex.{encode_lower}
+use Rattle.capn_quoted.specs.Texts.{is_text}
+use Rattle.capn_quoted.specs.Escapes.{escapes}
 use Rattle.capn_value.specs.NumberWidth.{byte}
-use Rattle.capn_value.specs.Tree.{Tree, nil, node, voids, numbers, links, rows, cap, Trees}
-use Rattle.capn_value.specs.Tree.{no_trees, tree, Bodies, no_bodies, body, count, count_rows}
+use Rattle.capn_value.specs.Tree.{Tree, nil, node, voids, numbers, links, rows, cap, Trees, no_trees, tree, Bodies}
+use Rattle.capn_value.specs.Tree.{no_bodies, body, count, count_rows}
 use Rattle.capn_value.specs.Text.{line, named, one_line, body_line, word_lines, numbers_name, numbers_lines}
-
--- True if `b` is from 0x20 to 0x7e.
-abbrev pub is_printable : ℕ → Bool
-is_printable b = nat_le 32 b && nat_le b 126
-
--- True if the bytes are a text: there is at least one, and each is printable, except that the last may be zero.
-abbrev pub is_text : List ℕ → Bool
-is_text [] = false
-is_text (b ∷ []) = is_printable b || b == 0
-is_text (b ∷ c ∷ bs) = is_printable b && is_text (c ∷ bs)
-
--- The byte `b` of a text, as lines show it between quotes.
-abbrev pub escaped : ℕ → List ℕ
-escaped b = if b == 34 then 92 ∷ 34 ∷ [] else if b == 92 then 92 ∷ 92 ∷ [] else if b == 0 then 92 ∷ 48 ∷ [] else b ∷ []
-
--- The bytes of a text, as they are written between quotes. `escaped_as` gives what is written for one byte.
-module _ (escaped_as : ℕ → List ℕ) where
-  abbrev pub escapes_by : List ℕ → List ℕ
-  escapes_by [] = []
-  escapes_by (b ∷ bs) = escaped_as b ++ escapes_by bs
-
--- The bytes of a text, as lines show them between quotes.
-abbrev pub escapes : List ℕ → List ℕ
-escapes = escapes_by escaped
 
 -- The lines of the list of bytes `xs` in digits, at `level`: a line with the length of `xs`, and the line of its
 -- digits. An empty list has no line of digits.
@@ -73,11 +51,39 @@ module _ (bytes_at : ℕ → List ℕ → List ℕ) where
         body_line level (length ws) (count ss)
         ++ (word_lines (level + 1) ws ++ (shown_each_by (level + 1) ss ++ shown_rows_by level bs))
 
-a_text : is_text (104 ∷ 105 ∷ 0 ∷ []) ≡ true
-a_text = refl
+an_umlaut : quoted_bytes 0 (104 ∷ 195 ∷ 182 ∷ 0 ∷ [])
+    ≡ line 0 (named (codes "bytes") 4 ++ 32 ∷ 34 ∷ 104 ∷ 195 ∷ 182 ∷ codes "\\0\"")
+unfolding is_utf8 chars lib.Utf8.encode
+an_umlaut = refl
 
-no_text : is_text (104 ∷ 0 ∷ 105 ∷ []) ≡ false
-no_text = refl
+no_zero_at_its_end : quoted_bytes 0 (104 ∷ 195 ∷ 182 ∷ []) ≡ plain_bytes 0 (104 ∷ 195 ∷ 182 ∷ [])
+unfolding is_utf8 chars lib.Utf8.encode
+no_zero_at_its_end = refl
 
-with_escapes : escapes (34 ∷ 92 ∷ 104 ∷ 0 ∷ []) ≡ codes "\\\"\\\\h\\0"
-with_escapes = refl
+with_a_newline : quoted_bytes 0 (97 ∷ 10 ∷ 98 ∷ 0 ∷ []) ≡ line 0 (named (codes "bytes") 4 ++ codes " \"a\\nb\\0\"")
+unfolding is_utf8 chars lib.Utf8.encode
+with_a_newline = refl
+
+ascii : quoted_bytes 0 (97 ∷ 98 ∷ []) ≡ line 0 (named (codes "bytes") 2 ++ codes " \"ab\"")
+ascii = refl
+
+turned : quoted_bytes 0 (226 ∷ 128 ∷ 174 ∷ 97 ∷ 0 ∷ [])
+    ≡ line 0 (named (codes "bytes") 5 ++ codes " \"\\u{202e}a\\0\"")
+unfolding is_utf8 chars lib.Utf8.encode
+turned = refl
+
+a_long_control : quoted_bytes 0 (194 ∷ 133 ∷ 0 ∷ []) ≡ plain_bytes 0 (194 ∷ 133 ∷ 0 ∷ [])
+unfolding is_utf8 chars lib.Utf8.encode
+a_long_control = refl
+
+one_zero : quoted_bytes 0 (0 ∷ []) ≡ line 0 (named (codes "bytes") 1 ++ codes " \"\\0\"")
+one_zero = refl
+
+a_face : quoted_bytes 0 (240 ∷ 159 ∷ 152 ∷ 128 ∷ 0 ∷ [])
+    ≡ line 0 (named (codes "bytes") 5 ++ 32 ∷ 34 ∷ 240 ∷ 159 ∷ 152 ∷ 128 ∷ codes "\\0\"")
+unfolding is_utf8 chars lib.Utf8.encode
+a_face = refl
+
+overlong : quoted_bytes 0 (192 ∷ 128 ∷ 0 ∷ []) ≡ plain_bytes 0 (192 ∷ 128 ∷ 0 ∷ [])
+unfolding is_utf8 chars lib.Utf8.encode
+overlong = refl

@@ -1,6 +1,6 @@
 -- Statements on the values at places of a message, and on the text that is written for these values.
-use Rattle.std.specs.Prelude.{◌≡◌, ℕ, ◌+◌, ◌*◌, ◌<◌, ◌≤◌, List, Bool, ◌++◌, length, map, slice_index, ⊤, Option}
-use Rattle.std.specs.Prelude.{Some, [], ◌∷◌, codes, replicate, true, false, ◌||◌, ◌==◌}
+use Rattle.std.specs.Prelude.{◌≡◌, ℕ, ◌+◌, ◌*◌, ◌<◌, ◌≤◌, List, Bool, ◌++◌, length, map, slice_index, ⊤, Option, Some}
+use Rattle.std.specs.Prelude.{[], ◌∷◌, codes, replicate, true, false, ◌||◌, ◌==◌}
 use Rattle.std.specs.Fmt.{decimal}
 use Rattle.std.specs.Int.{from_bool}
 use Rattle.capn_words.specs.declared.space.Place.{Place}
@@ -15,8 +15,9 @@ use Rattle.capn_walk.specs.ValueAt.{IsAt, words_from}
 use Rattle.capn_walk.specs.View.{number_in}
 use Rattle.capn_walk.specs.ShownValue.{Shows, ShowsStruct, words_of_row, slots_of_row}
 use Rattle.capn_walk.specs.Accepted.{root}
-use Rattle.capn_show.specs.JsonTexts.{json_escaped}
-use Rattle.capn_show.specs.Quoting.{escaped, plain_bytes, quoted_bytes}
+use Rattle.capn_quoted.specs.Escapes.{escapes}
+use Rattle.capn_show.specs.Outgoing.{Outgoing, Adds}
+use Rattle.capn_show.specs.Quoting.{plain_bytes, quoted_bytes}
 use Rattle.capn_show.specs.Style.{part_in, styled}
 use Rattle.capn_show.specs.declared.style.Style.{Style}
 use Rattle.capn_show.specs.declared.style.Style.TheVariants as styles
@@ -47,15 +48,9 @@ abbrev pub bytes_of : Bool → ℕ → List ℕ → List ℕ
 bytes_of false = plain_bytes
 bytes_of true = quoted_bytes
 
--- A byte of a text, as it is written between quotes: in JSON if the first argument is true, and else in lines.
-abbrev pub escaped_of : Bool → ℕ → List ℕ
-escaped_of false = escaped
-escaped_of true = json_escaped
-
--- True if the byte `b` of a text is escaped between quotes, in JSON if the first argument is true, else in lines.
-abbrev pub is_escaped : Bool → ℕ → Bool
-is_escaped false b = b == 34 || (b == 92 || b == 0)
-is_escaped true b = b == 34 || (b == 92 || (b == 9 || (b == 10 || b == 13)))
+-- True if JSON escapes the byte `b` between quotes.
+abbrev pub is_escaped : ℕ → Bool
+is_escaped b = b == 34 || (b == 92 || (b == 9 || (b == 10 || b == 13)))
 
 -- The style of lines. If the argument is true, a list of bytes that is a text is written between quotes.
 abbrev pub lines_style : Bool → Style
@@ -71,6 +66,11 @@ json_style true = styles.JsonText
 -- quote.
 abbrev pub quoted_front : ℕ → ℕ → List ℕ
 quoted_front level n = replicate (2 * level) 32 ++ (codes "bytes " ++ ((decimal n ++ 32 ∷ []) ++ 34 ∷ []))
+
+-- From `p` to `q`, what is written between quotes of the front of `bytes` is added. `rest` is `bytes` without this
+-- front.
+abbrev pub AddsFront : Outgoing → Outgoing → List ℕ → List ℕ → Type 0
+AddsFront p q bytes rest = (front : List ℕ) × Adds p q front × (escapes bytes ≡ front ++ escapes rest)
 
 module _ (m : List (List ℕ)) where
   -- ---- the values at places

@@ -1,6 +1,6 @@
 //! The text of a list of bytes, either as digits or as a text between quotes.
 
-ghost use Rattle.std.specs.Prelude.{◌≡◌, ◌<◌, ◌+◌, ◌^◌, ◌||◌, ◌==◌, IfErr, OnOk};
+ghost use Rattle.std.specs.Prelude.{◌<◌, ◌+◌, ◌^◌, IfErr, OnOk};
 ghost use Rattle.capn_words.specs.Message.{IsMessage};
 ghost use Rattle.capn_words.specs.declared.pointer.Width.TheVariants as widths;
 ghost use Rattle.capn_value.specs.NumberWidth as kinds;
@@ -14,45 +14,14 @@ ghost use Rattle.capn_show.specs.ReadyPlaces.{NumbersShown};
 
 use crate::byte_digits::show_bytes;
 use crate::emitter::Emitter;
-use crate::escapes::put_escapes;
 use crate::fault::Broken;
 use crate::lines::{indent, put_number};
 use crate::output::put;
 use crate::piece::Piece;
+use crate::quoted::put_between_quotes;
 use capn_words::{Place, Space, Watched};
 use std::alloc::Allocator;
 use std::io::Write;
-
-/// Returns `true` if `byte` is from 0x20 to 0x7e.
-fn is_printable(byte: u8) -> bool
-    ensures { result ≡ quoting.is_printable byte }
-{
-    32 <= byte && byte <= 126
-}
-
-/// Returns `true` if `byte` is printable or zero, so that `byte` may be the last byte of a text.
-fn ends_text(byte: u8) -> bool
-    ensures { result ≡ (quoting.is_printable byte || byte == 0) }
-{
-    is_printable(byte) || byte == 0
-}
-
-/// Returns `true` if `bytes` is a text. A text has at least one byte. Its bytes are from 0x20 to 0x7e, but the last
-/// byte may also be zero.
-pub fn is_text(bytes: &[u8]) -> bool
-    ensures { result ≡ quoting.is_text bytes.now }
-{
-    if bytes.is_empty() {
-        return false;
-    }
-    let last = bytes.len() - 1;
-    for i in 0..last {
-        if !is_printable(bytes[i]) {
-            return false;
-        }
-    }
-    ends_text(bytes[last])
-}
 
 /// Appends the front of a line with bytes between quotes to `text`. The front is the indent of `level`, the word
 /// `bytes`, the number `count` and the first quote.
@@ -86,7 +55,7 @@ pub fn show_quoted<W: Write, A: Allocator>(
         (outgoing W.contents writer.new text.new.items) e (quoting.quoted_line level bytes.now)) }
 {
     quoted_front(text, writer, level, bytes.len())?;
-    put_escapes(text, writer, false, bytes)?;
+    put_between_quotes(text, writer, bytes)?;
     put(text, writer, b"\"\n")
 }
 

@@ -6,10 +6,11 @@ ghost use Rattle.capn_show.specs.declared.fault.Broken.TheVariants as broken;
 ghost use Rattle.capn_show.specs.Emitted.{Rule, plain_rule};
 ghost use Rattle.capn_show.specs.Outgoing.{Adds, BreaksOff, outgoing};
 
-use crate::bytes::{is_text, show_quoted};
+use crate::bytes::show_quoted;
 use crate::fault::Broken;
 use crate::line_pieces::put_line_piece;
 use crate::piece::Piece;
+use capn_quoted::is_text;
 use capn_words::{Place, Space, Watched};
 use std::alloc::Allocator;
 use std::io::Write;

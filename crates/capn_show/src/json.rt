@@ -7,9 +7,10 @@ ghost use Rattle.capn_show.specs.Outgoing.{Adds, BreaksOff, outgoing};
 use crate::emitter::Emitter;
 use crate::fault::Broken;
 use crate::json_items::{is_quoted, put_member, put_value, put_word, separate};
-use crate::json_texts::{is_json_text, json_text};
+use crate::json_texts::json_text;
 use crate::output::put;
 use crate::piece::Piece;
+use capn_quoted::is_clear_text;
 use capn_words::{Place, Space, Watched};
 use std::alloc::Allocator;
 use std::io::Write;
@@ -61,7 +62,7 @@ impl<const QUOTED: bool> Emitter for Json<QUOTED> {
 
     #[inline(always)]
     fn is_text(&self, bytes: &[u8]) -> bool {
-        QUOTED && is_json_text(bytes)
+        QUOTED && is_clear_text(bytes)
     }
 
     #[inline(always)]

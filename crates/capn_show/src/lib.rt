@@ -36,6 +36,7 @@ mod numbers;
 mod output;
 mod part;
 mod piece;
+mod quoted;
 mod rows;
 mod slots;
 mod style;
@@ -47,7 +48,7 @@ pub use part::show_part;
 pub use style::Style;
 
 // Functions and types for other crates that write texts: lines, lists, emitters, and the steps of a path.
-pub use bytes::{is_text, show_quoted};
+pub use bytes::show_quoted;
 pub use descent::{Part, named, step_down};
 pub use emitter::Emitter;
 pub use fault::{Broken, fault_of};
@@ -55,4 +56,5 @@ pub use line_pieces::put_line_piece;
 pub use lines::{plain_line, put_number};
 pub use output::put;
 pub use piece::Piece;
+pub use quoted::put_between_quotes;
 pub use slots::show_found;

@@ -8,14 +8,12 @@ ghost use Rattle.capn_show.specs.Style as spec;
 pub enum Style {
     /// Lines, in which every list of bytes is written in digits.
     Lines,
-    /// Lines, in which a list of bytes that is a text is written between quotes. A text has at least one byte. Its
-    /// bytes are from 0x20 to 0x7e, but the last byte may also be zero.
+    /// Lines, in which a list of bytes that is a text ([`capn_quoted::is_text`]) is written between quotes.
     Quoted,
     /// One line of JSON, in which every list of bytes is written in digits.
     Json,
-    /// One line of JSON, in which a list of bytes that is a text is written as a string. The last byte of a text is
-    /// zero. The bytes before it are well-formed UTF-8 without control characters other than tab, newline and carriage
-    /// return.
+    /// One line of JSON, in which a list of bytes that is a clear text ([`capn_quoted::is_clear_text`]) is written as a
+    /// string.
     JsonText,
 }
 

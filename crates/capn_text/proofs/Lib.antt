@@ -26,6 +26,7 @@ pub mod WrongOrDeep
 pub mod LostTexts
 pub mod WhateverFollows
 pub mod Quotes
+pub mod QuietTexts
 pub mod QuotedLines
 pub mod PlainTexts
 pub mod Beginnings

@@ -1,12 +1,12 @@
 -- Lemmas for `count_to` and `plain_forms`: the line of a text to which a line of its plain form belongs.
-use Rattle.std.proofs.Common.{◌≡◌, ℕ, zero, suc, ◌+◌, ◌-◌, ◌^◌, ◌<◌, ◌≤◌, ◌==◌, ◌||◌, ◌&&◌}
-use Rattle.std.proofs.Common.{Bool, true, false, cond, nat_le}
-use Rattle.std.proofs.Common.{List, [], ◌∷◌, ◌++◌, length, codes, Option, Some, None, refl, sym, ap, ap₂, ◌∙◌}
-use Rattle.std.proofs.Common.{append_assoc, arith, inl, inr, ◌⊎◌}
-use Rattle.std.specs.List.{AllByRecursion}
-use Rattle.std.proofs.lemmas.Bool.{le-leb, lt-leb, leb-true, eqb-true, and_parts}
+use Rattle.std.proofs.Common.{◌≡◌, ℕ, zero, suc, ◌+◌, ◌-◌, ◌^◌, ◌<◌, ◌≤◌, ◌==◌, Bool, true, false, cond, nat_le, List}
+use Rattle.std.proofs.Common.{[], ◌∷◌, ◌++◌, length, Option, Some, None, refl, sym, ap, ap₂, ◌∙◌, append_assoc, arith}
+use Rattle.std.proofs.Common.{inl, inr, ◌⊎◌}
+use Rattle.std.proofs.lemmas.Bool.{le-leb, lt-leb}
 use Rattle.std.proofs.lemmas.List.{append-nil, length-append}
-use Rattle.capn_show.specs.Quoting.{is_printable, is_text, plain_bytes}
+use Rattle.capn_quoted.specs.Texts.{is_text}
+use Rattle.capn_quoted.proofs.shared.QuotedTexts.{low_text}
+use Rattle.capn_show.specs.Quoting.{plain_bytes}
 use Rattle.capn_text.specs.Streams.{ended_lines}
 use Rattle.capn_text.specs.Quoted.{IsPlainBy, IsOwnBy}
 use Rattle.capn_text.specs.PlainForm.{plain_or, plain_line, is_quoted, is_there, lines_of, digits_of, digits_after}
@@ -143,17 +143,6 @@ few_within (c ∷ cs) before l i =
       by true false i on h = one h i
 
 -- ---- the plain form of a line has one line or two
-
-low_text : (xs : List ℕ) → is_text xs ≡ true → AllByRecursion (λ b. b < 2 ^ 8) xs
-low_text [] p = tt
-low_text (x ∷ []) p = (last x (is_printable x) refl p, tt) where
-  last : (x : ℕ) (b : Bool) → is_printable x ≡ b → (b || x == 0) ≡ true → x < 2 ^ 8
-  last x true e p = let h = and_parts (nat_le 32 x) (nat_le x 126) e in let k = leb-true x 126 h.1 in omega arith
-  last x false e p = let h = eqb-true x 0 p in omega arith
-low_text (x ∷ y ∷ xs) p =
-    let h = and_parts (is_printable x) (is_text (y ∷ xs)) p in
-    let i = and_parts (nat_le 32 x) (nat_le x 126) h.0 in
-    let k = leb-true x 126 i.1 in (omega arith, low_text (y ∷ xs) h.1)
 
 some_text : (xs : List ℕ) → is_text xs ≡ true → (n : ℕ) × (length xs ≡ suc n)
 some_text [] p = absurd cc

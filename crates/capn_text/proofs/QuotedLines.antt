@@ -1,24 +1,23 @@
 -- Lemmas for `Beginnings`, `OwnLines`, `PlainTexts` and `ShownPlain`: which lines `quoted_at` reads, and the bytes that
 -- it gives for them (`IsQuoted`).
-use Rattle.std.proofs.Common.{◌≡◌, ℕ, zero, suc, ◌+◌, ◌*◌, ◌^◌, ◌%◌, ◌≤◌, ◌<◌, ◌==◌, ◌&&◌, ◌||◌, ◌⊎◌}
-use Rattle.std.proofs.Common.{Bool, true, false, cond}
-use Rattle.std.proofs.Common.{List, [], ◌∷◌, ◌++◌, length, codes, Option}
-use Rattle.std.proofs.Common.{Some, None, replicate, refl, sym, ap, ap₂, ◌∙◌}
-use Rattle.std.proofs.Common.{append_assoc, arith, inl, inr, subst}
+use Rattle.std.proofs.Common.{◌≡◌, ℕ, zero, suc, ◌+◌, ◌*◌, ◌^◌, ◌%◌, ◌≤◌, ◌<◌, ◌==◌, ◌&&◌, ◌⊎◌, Bool, true, false, cond}
+use Rattle.std.proofs.Common.{List, [], ◌∷◌, ◌++◌, length, codes, Option, Some, None, replicate, refl, sym, ap, ap₂}
+use Rattle.std.proofs.Common.{◌∙◌, append_assoc, arith, inl, inr, subst}
 use Rattle.std.specs.Fmt.{decimal}
 use Rattle.std.proofs.lemmas.Bool.{eqb-true, eq-eqb, ne_eqb}
 use Rattle.std.proofs.lemmas.Fmt.{decimal_by_steps}
 use Rattle.std.proofs.lemmas.List.{append_cancel_right, length-append}
 use Rattle.capn_value.specs.Text.{line}
-use Rattle.capn_show.specs.Quoting.{is_text, escaped, escapes, quoted_line}
+use Rattle.capn_quoted.specs.Texts.{is_text}
+use Rattle.capn_quoted.specs.Escapes.{escapes}
+use Rattle.capn_show.specs.Quoting.{quoted_line}
 use Rattle.capn_text.specs.Quoted.{uncounted_line, IsQuoted}
-use Rattle.capn_text.specs.Beginnings.{may_follow}
-use Rattle.capn_text.specs.inner.Tokens.{◌>>=◌, strip, decimal_at, digits_at, is_digit}
-use Rattle.capn_text.specs.inner.QuotedLines.{unquoted, some_of, text_in}
+use Rattle.capn_text.specs.inner.Tokens.{◌>>=◌, strip, decimal_at}
+use Rattle.capn_quoted.specs.Reading.{unquoted}
 use Rattle.capn_text.specs.inner.QuotedLines.{counted_text, counted_or, levels_at, quoted_at}
-use Rattle.capn_text.proofs.Steps.{guard_some, some_is, bind_some}
+use Rattle.capn_text.proofs.Steps.{guard_some, bind_some}
 use Rattle.capn_text.proofs.TokenText.{strip_takes, two_more, decimal_again, decimal_takes}
-use Rattle.capn_text.proofs.Quotes.{text_again, text_takes}
+use Rattle.capn_quoted.proofs.shared.QuotedTexts.{text_again, text_takes, escapes_size}
 
 abbrev pub spaces : ℕ → List ℕ
 spaces level = replicate (2 * level) 32
@@ -62,48 +61,25 @@ inside xs = escapes xs ++ 34 ∷ []
 abbrev pub with_count : ℕ → List ℕ → List ℕ
 with_count n rest = decimal n ++ 32 ∷ 34 ∷ rest
 
-some_again : (xs : List ℕ) → is_text xs ≡ true → some_of xs ≡ Some xs
-some_again [] p = absurd cc
-some_again (x ∷ xs) p = refl
-
-some_takes : (ys xs : List ℕ) → some_of ys ≡ Some xs → (ys ≡ xs) × (ys ≡ [] → ⊥)
-some_takes [] xs e = absurd cc
-some_takes (y ∷ ys) xs e = (some_is (y ∷ ys) xs e, λ h. absurd cc)
-
-in_again : (xs : List ℕ) → is_text xs ≡ true → text_in (inside xs) ≡ Some xs
-in_again xs p = ap (λ (r : Option (List ℕ)). r >>= some_of) (text_again xs p) ∙ some_again xs p
-
-in_takes : (t xs : List ℕ) → text_in t ≡ Some xs → (t ≡ inside xs) × (is_text xs ≡ true)
-in_takes t xs e =
-    let ys = bind_some (unquoted t) some_of xs e in
-    let h = some_takes ys.0 xs ys.2 in
-    let k = text_takes t ys.0 ys.1 in (
-      k.0 ∙ ap inside h.0,
-      elim k.1 [
-        | inl none ↦ absurd (h.1 none)
-        | inr text ↦ sym (ap is_text h.0) ∙ text
-      ],
-    )
-
 abbrev counted_after : ℕ × List ℕ → Option (List ℕ)
-counted_after n = strip (codes " \"") n.1 >>= λ rest. text_in rest >>= λ xs. cond (length xs == n.0) (Some xs) None
+counted_after n = strip (codes " \"") n.1 >>= λ rest. unquoted rest >>= λ xs. cond (length xs == n.0) (Some xs) None
 
 count_again : (xs : List ℕ) → length xs < 2 ^ 64 → is_text xs ≡ true
     → counted_text (with_count (length xs) (inside xs)) ≡ Some xs
 count_again xs fits p =
     ap (λ (r : Option (ℕ × List ℕ)). r >>= counted_after) (decimal_again (length xs) 32 (34 ∷ inside xs) fits refl)
-    ∙ ap (λ (r : Option (List ℕ)). r >>= λ ys. cond (length ys == length xs) (Some ys) None) (in_again xs p)
+    ∙ ap (λ (r : Option (List ℕ)). r >>= λ ys. cond (length ys == length xs) (Some ys) None) (text_again xs p)
     ∙ ap (λ b. cond b (Some xs) None) (eq-eqb (length xs) (length xs) refl)
 
 count_takes : (t xs : List ℕ) → counted_text t ≡ Some xs
     → (t ≡ with_count (length xs) (inside xs)) × (is_text xs ≡ true)
 count_takes t xs e =
     let n = bind_some (decimal_at t) counted_after xs e in
-    let rest = bind_some (strip (codes " \"") n.0.1) (λ rest. text_in rest
+    let rest = bind_some (strip (codes " \"") n.0.1) (λ rest. unquoted rest
     >>= λ ys. cond (length ys == n.0.0) (Some ys) None) xs n.2 in
-    let ys = bind_some (text_in rest.0) (λ ys. cond (length ys == n.0.0) (Some ys) None) xs rest.2 in
+    let ys = bind_some (unquoted rest.0) (λ ys. cond (length ys == n.0.0) (Some ys) None) xs rest.2 in
     let g = guard_some (length ys.0 == n.0.0) ys.0 xs ys.2 in
-    let h = in_takes rest.0 ys.0 ys.1 in
+    let h = text_takes rest.0 ys.0 ys.1 in
     let count = eqb-true (length ys.0) n.0.0 g.0 in
     let spelled : t ≡ with_count (length ys.0) (inside ys.0) =
     (decimal_takes t n.0.0 n.0.1 n.1).0
@@ -175,12 +151,12 @@ is_read level text xs fits (p, inl e) =
     (ap (λ (r : Option (List ℕ)). counted_or r (with_count (length xs) (inside xs))) none ∙ count_again xs fits p)
 is_read level text xs fits (p, inr e) =
     let same = append_cancel_right text (uncounted level xs) (10 ∷ []) (e ∙ bare_line level xs) in
-    ap quoted_at same ∙ quoted_again level (34 ∷ inside xs) xs (in_again xs p)
+    ap quoted_at same ∙ quoted_again level (34 ∷ inside xs) xs (text_again xs p)
 
 name_takes : (rest xs : List ℕ) (r : Option (List ℕ)) → strip (34 ∷ []) rest ≡ r → counted_or r rest ≡ Some xs
     → (is_text xs ≡ true) × ((rest ≡ with_count (length xs) (inside xs)) ⊎ (rest ≡ 34 ∷ inside xs))
 name_takes rest xs (Some inner) e f =
-    let h = in_takes inner xs f in
+    let h = text_takes inner xs f in
     (h.1, inr (strip_takes (34 ∷ []) rest inner e ∙ ap (λ (l : List ℕ). 34 ∷ l) h.0))
 name_takes rest xs None e f = let h = count_takes rest xs f in (h.1, inl h.0)
 
@@ -211,21 +187,6 @@ was_read text level xs e =
     )
 
 -- ---- sizes
-
-escaped_size : (b : ℕ) (x y z : Bool)
-    → 1 ≤ length (cond x (92 ∷ 34 ∷ []) (cond y (92 ∷ 92 ∷ []) (cond z (92 ∷ 48 ∷ []) (b ∷ []))))
-escaped_size b true y z = omega arith
-escaped_size b false true z = omega arith
-escaped_size b false false true = omega arith
-escaped_size b false false false = omega arith
-
-escapes_size : (xs : List ℕ) → length xs ≤ length (escapes xs)
-escapes_size [] = omega arith
-escapes_size (x ∷ xs) =
-    let first : 1 ≤ length (escaped x) = escaped_size x (x == 34) (x == 92) (x == 0) in
-    let others = escapes_size xs in
-    let both = length-append (escaped x) (escapes xs) in
-    omega arith
 
 within : (a b : List ℕ) → length b ≤ length (a ++ b)
 within a b = let h = length-append a b in omega arith
@@ -272,36 +233,44 @@ has_quote level text xs (p, inr e) = (
       ∙ sym (append_assoc (spaces level) (codes "bytes ") (34 ∷ inside xs)),
 )
 
--- ---- the first bytes after the name
+-- ---- the bytes after the name
 
-first_fits : (rest xs : List ℕ) → after_name rest ≡ Some xs → may_follow rest ≡ true
-first_fits [] xs e = absurd cc
-first_fits (c ∷ cs) xs e = quoted (34 == c) refl e where
-  counts : (x y : Bool) → (c == 48) ≡ x → is_digit c ≡ y
-      → (cond x (Some (0, cs)) (cond y (digits_at 0 (c ∷ cs)) None) >>= counted_after) ≡ Some xs → is_digit c ≡ true
-  counts true y f g h = ap is_digit (eqb-true c 48 f)
-  counts false true f g h = g
-  counts false false f g h = absurd cc
+-- The bytes `t` are the text `xs` between quotes, with its count or without it.
+abbrev pub IsAfterName : List ℕ → List ℕ → Type 0
+IsAfterName t xs = (unquoted (inside xs) ≡ Some xs)
+    × (((length xs < 2 ^ 64) × (t ≡ with_count (length xs) (inside xs))) ⊎ (t ≡ 34 ∷ inside xs))
 
-  quoted : (b : Bool) → (34 == c) ≡ b → counted_or (cond b (some cs) None) (c ∷ cs) ≡ Some xs
-      → may_follow (c ∷ cs) ≡ true
-  quoted true f h = ap may_follow (ap (λ (k : ℕ). k ∷ cs) (sym (eqb-true 34 c f)))
-  quoted false f h = last (c == 34) (counts (c == 48) (is_digit c) refl refl h) where
-    last : (a : Bool) → is_digit c ≡ true → (a || is_digit c) ≡ true
-    last true d = refl
-    last false d = d
+count_fits : (t xs : List ℕ) → counted_text t ≡ Some xs → length xs < 2 ^ 64
+count_fits t xs e =
+    let n = bind_some (decimal_at t) counted_after xs e in
+    let rest = bind_some (strip (codes " \"") n.0.1) (λ rest. unquoted rest
+    >>= λ ys. cond (length ys == n.0.0) (Some ys) None) xs n.2 in
+    let ys = bind_some (unquoted rest.0) (λ ys. cond (length ys == n.0.0) (Some ys) None) xs rest.2 in
+    let g = guard_some (length ys.0 == n.0.0) ys.0 xs ys.2 in
+    let count = eqb-true (length ys.0) n.0.0 g.0 in
+    let fits = (decimal_takes t n.0.0 n.0.1 n.1).1 in
+    let same : length ys.0 ≡ length xs = ap length g.1 in
+    omega arith
 
--- A line with bytes between quotes has an indent, the name `bytes`, and then a digit or a quote.
+name_fits : (rest xs : List ℕ) (r : Option (List ℕ)) → strip (34 ∷ []) rest ≡ r → counted_or r rest ≡ Some xs
+    → ((length xs < 2 ^ 64) × (rest ≡ with_count (length xs) (inside xs))) ⊎ (rest ≡ 34 ∷ inside xs)
+name_fits rest xs (Some inner) e f =
+    inr (strip_takes (34 ∷ []) rest inner e ∙ ap (λ (l : List ℕ). 34 ∷ l) (text_takes inner xs f).0)
+name_fits rest xs None e f = inl (count_fits rest xs f, (count_takes rest xs f).0)
+
+-- A line with bytes between quotes has an indent, the name `bytes`, and then bytes `t` that are read.
 pub names_line : (text : List ℕ) (q : ℕ × List ℕ) → quoted_at text ≡ Some q
-    → (level : ℕ) × (t : List ℕ) × (text ≡ spaces level ++ (codes "bytes " ++ t)) × (may_follow t ≡ true)
+    → (level : ℕ) × (t : List ℕ) × (text ≡ spaces level ++ (codes "bytes " ++ t)) × ((xs : List ℕ) × IsAfterName t xs)
 unfolding quoted_at
 names_line text q e =
     let rest = bind_some (strip (codes "bytes ") (levels_at text).1)
     (λ r. after_name r >>= λ ys. Some ((levels_at text).0, ys)) q e in
-    let ys = bind_some (after_name rest.0) (λ ys. Some ((levels_at text).0, ys)) q rest.2 in (
+    let ys = bind_some (after_name rest.0) (λ ys. Some ((levels_at text).0, ys)) q rest.2 in
+    let h = name_takes rest.0 ys.0 (strip (34 ∷ []) rest.0) refl ys.1 in
+    let k = name_fits rest.0 ys.0 (strip (34 ∷ []) rest.0) refl ys.1 in (
       (levels_at text).0,
       rest.0,
       levels_take text ∙ ap (λ (l : List ℕ). spaces (levels_at text).0 ++ l)
           (strip_takes (codes "bytes ") (levels_at text).1 rest.0 rest.1),
-      first_fits rest.0 ys.0 ys.1,
+      (ys.0, (text_again ys.0 h.0, k)),
     )

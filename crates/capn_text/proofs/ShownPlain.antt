@@ -1,27 +1,27 @@
 -- Lemmas for `plain_forms`: the plain form of a text with lists of bytes between quotes is the text without quotes.
-use Rattle.std.proofs.Common.{◌≡◌, ◌+◌, ◌*◌, ◌/◌, ◌%◌, ◌^◌, ◌<◌, ◌≤◌, ◌==◌, ◌&&◌, ◌||◌, ℕ, zero, suc}
-use Rattle.std.proofs.Common.{Bool, true, false}
-use Rattle.std.proofs.Common.{cond, not, List, [], ◌∷◌, ◌++◌, length, codes}
-use Rattle.std.proofs.Common.{replicate, map, refl, sym, ap, ap₂, ◌∙◌}
+use Rattle.std.proofs.Common.{◌≡◌, ◌+◌, ◌*◌, ◌/◌, ◌%◌, ◌^◌, ◌<◌, ◌≤◌, ◌==◌, ◌&&◌, ℕ, zero, suc, Bool, true, false, cond}
+use Rattle.std.proofs.Common.{not, List, [], ◌∷◌, ◌++◌, length, codes, replicate, map, refl, sym, ap, ap₂, ◌∙◌}
 use Rattle.std.proofs.Common.{append_assoc, arith, inl, inr}
 use Rattle.std.specs.List.{AllByRecursion}
 use Rattle.std.specs.Fmt.{decimal}
 use Rattle.std.specs.Int.{to_be_bytes, w64}
-use Rattle.std.proofs.lemmas.Bool.{ne_eqb, eqb-true, and_parts, and_from, agree_below, agree_below_at}
+use Rattle.std.proofs.lemmas.Bool.{ne_eqb, and_parts, and_from, agree_below, agree_below_at}
 use Rattle.std.proofs.lemmas.Fmt.{decimal_by_steps}
 use Rattle.hex.specs.Hex.{encode_lower}
 use Rattle.capn_value.specs.NumberWidth.{bit, byte, pair, quad, oct, is_set}
-use Rattle.capn_value.specs.Tree.{Tree, nil, node, voids, numbers, links, rows, cap, Trees}
-use Rattle.capn_value.specs.Tree.{no_trees, tree, Bodies, no_bodies, body, count, count_rows}
+use Rattle.capn_value.specs.Tree.{Tree, nil, node, voids, numbers, links, rows, cap, Trees, no_trees, tree, Bodies}
+use Rattle.capn_value.specs.Tree.{no_bodies, body, count, count_rows}
 use Rattle.capn_value.specs.Text.{line, named, hex16, digits_of, one_line, word_lines, number_lines, body_line, shown}
 use Rattle.capn_value.specs.Text.{shown_each, shown_rows}
-use Rattle.capn_show.specs.Quoting.{is_printable, is_text, escaped, escapes, quoted_line, plain_bytes, quoted_bytes}
-use Rattle.capn_show.specs.Quoting.{shown_by, shown_each_by, shown_rows_by}
+use Rattle.capn_quoted.specs.Texts.{is_text}
+use Rattle.capn_quoted.specs.Escapes.{escapes}
+use Rattle.capn_show.specs.Quoting.{quoted_line, plain_bytes, quoted_bytes, shown_by, shown_each_by, shown_rows_by}
 use Rattle.capn_text.specs.Showable.{IsShowable, EachShowable, RowsShowable}
 use Rattle.capn_text.specs.Streams.{ended_lines, end_line, stream_text}
 use Rattle.capn_text.specs.Quoted.{IsPlain}
 use Rattle.capn_text.specs.PlainLaws.{quoted_stream}
 use Rattle.capn_text.proofs.LineCounts.{lines_append}
+use Rattle.capn_text.proofs.QuietTexts.{escapes_quiet}
 use Rattle.capn_text.proofs.TokenText.{glyph, encode_one, encode_none, encode_more, bytes_below}
 use Rattle.capn_text.proofs.QuotedLines.{spaces, inside, with_count, counted, counted_line, has_quote}
 
@@ -150,36 +150,13 @@ kept_line level x p rest form (fronts, h) =
 quiet_both : (x y : List ℕ) → ended_lines x ≡ 0 → ended_lines y ≡ 0 → ended_lines (x ++ y) ≡ 0
 quiet_both x y p q = let h = lines_append x y in omega arith
 
-quiet_byte : (b : ℕ) (w x y z : Bool) → (b == 10) ≡ w → (w ≡ true → ⊥) → ended_lines
-    (cond x (92 ∷ 34 ∷ []) (cond y (92 ∷ 92 ∷ []) (cond z (92 ∷ 48 ∷ []) (b ∷ [])))) ≡ 0
-quiet_byte b w true y z e f = refl
-quiet_byte b w false true z e f = refl
-quiet_byte b w false false true e f = refl
-quiet_byte b true false false false e f = absurd (f refl)
-quiet_byte b false false false false e f = ap (λ (x : Bool). cond {A = ℕ} x 1 0 + 0) e
-
-printable_quiet : (b : ℕ) → is_printable b ≡ true → ended_lines (escaped b) ≡ 0
-printable_quiet b p = quiet_byte b (b == 10) (b == 34) (b == 92) (b == 0) refl (λ h.
-    let q : is_printable 10 ≡ true = sym (ap is_printable (eqb-true b 10 h)) ∙ p in absurd cc)
-
-last_quiet : (b : ℕ) (x : Bool) → is_printable b ≡ x → (x || b == 0) ≡ true → ended_lines (escaped b) ≡ 0
-last_quiet b true p e = printable_quiet b p
-last_quiet b false p e = ap (λ (k : ℕ). ended_lines (escaped k)) (eqb-true b 0 e)
-
-text_quiet : (xs : List ℕ) → is_text xs ≡ true → ended_lines (escapes xs) ≡ 0
-text_quiet [] p = refl
-text_quiet (b ∷ []) p = quiet_both (escaped b) [] (last_quiet b (is_printable b) refl p) refl
-text_quiet (b ∷ c ∷ bs) p =
-    let parts = and_parts (is_printable b) (is_text (c ∷ bs)) p in
-    quiet_both (escaped b) (escapes (c ∷ bs)) (printable_quiet b parts.0) (text_quiet (c ∷ bs) parts.1)
-
 counted_quiet : (level : ℕ) (xs : List ℕ) → length xs < 2 ^ 64 → is_text xs ≡ true → ended_lines (counted level xs) ≡ 0
 counted_quiet level xs fits p =
     quiet_both (spaces level) (codes "bytes " ++ with_count (length xs) (inside xs))
     (quiet (spaces level) (blanks (2 * level)))
     (quiet_both (codes "bytes ") (with_count (length xs) (inside xs)) refl
     (quiet_both (decimal (length xs)) (32 ∷ 34 ∷ inside xs) (quiet (decimal (length xs)) (of_decimal (length xs) fits))
-    (quiet_both (32 ∷ 34 ∷ []) (inside xs) refl (quiet_both (escapes xs) (34 ∷ []) (text_quiet xs p) refl))))
+    (quiet_both (32 ∷ 34 ∷ []) (inside xs) refl (quiet_both (escapes xs) (34 ∷ []) (escapes_quiet xs) refl))))
 
 kept_text : (level : ℕ) (xs : List ℕ) → length xs < 2 ^ 64 → is_text xs ≡ true
     → Keeps (quoted_line level xs) (plain_bytes level xs)

@@ -1,7 +1,9 @@
 -- Texts in which a list of bytes may stand between quotes on one line, and their plain form. (Our own.)
 use Rattle.std.specs.Prelude.{◌≡◌, ◌⊎◌, ◌≤◌, ℕ, suc, ◌+◌, List, [], ◌∷◌, ◌++◌, codes, true, refl}
 use Rattle.capn_value.specs.Text.{line, named}
-use Rattle.capn_show.specs.Quoting.{is_text, escapes, quoted_line, plain_bytes}
+use Rattle.capn_quoted.specs.Texts.{is_text}
+use Rattle.capn_quoted.specs.Escapes.{escapes}
+use Rattle.capn_show.specs.Quoting.{quoted_line, plain_bytes}
 use Rattle.capn_text.specs.Streams.{ended_lines}
 
 -- The line at `level` that has the bytes `xs` between quotes, but not the number of these bytes.

@@ -113,8 +113,8 @@ pub fn next_line(text: &[u8]) -> Option<(&[u8], &[u8])>
 
 /// Returns the plain form of `text`. In `text`, a list of bytes may stand between quotes, as a line `bytes N "T"` or
 /// `bytes "T"`. Such a line becomes the lines that [`capn_value::show`] writes for the bytes of T. Any other line stays
-/// as it is. T has N bytes, at least one. Its bytes are from 0x20 to 0x7e, except that the last may be zero. In T a
-/// quote is `\"`, a backslash `\\`, a last zero `\0`. (Our own.)
+/// as it is. T is what [`capn_quoted`] writes of some text of N bytes: a quote is `\"`, a backslash `\\`, tab `\t`,
+/// newline `\n`, carriage return `\r`, a last zero `\0`, and a hidden code point `\u{H}`. (Our own.)
 ///
 /// Takes time linear in the text. Takes memory of `alloc` for the plain form, up to twice as much while it grows, and
 /// for the bytes of one line.

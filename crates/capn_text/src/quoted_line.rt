@@ -1,79 +1,27 @@
 //! The parser of a line with a list of bytes between quotes.
 
-ghost use Rattle.std.specs.Prelude.{◌≡◌, ◌≤◌, ◌<◌, ◌*◌, ◌==◌, ◌||◌, length, take, IfOk};
-ghost use Rattle.capn_show.specs.Quoting as quoting;
+ghost use Rattle.std.specs.Prelude.{◌≡◌, ◌≤◌, ◌<◌, ◌*◌, length, take, IfOk};
+ghost use Rattle.capn_quoted.specs.Reading as reading;
 ghost use Rattle.capn_text.specs.Beginnings as beginnings;
 ghost use Rattle.capn_text.specs.inner.QuotedLines as quotes;
 ghost use Rattle.capn_text.specs.inner.Tokens.{Gives};
 
 use crate::fault::Stop;
 use crate::tokens::{decimal_at, is_digit, pass, skip};
+use capn_quoted::{Unread, may_go_on, unquoted};
 use std::alloc::Allocator;
 
-/// Returns `true` if `byte` is from 0x20 to 0x7e.
-fn is_printable(byte: u8) -> bool
-    ensures { result ≡ quoting.is_printable byte }
-{
-    b' ' <= byte && byte <= b'~'
-}
-
-/// Returns `true` if `byte` is a quote or a backslash. Between quotes such a byte stands after a backslash.
-fn is_marked(byte: u8) -> bool
-    ensures { result ≡ (byte == 34 || byte == 92) }
-{
-    byte == b'"' || byte == b'\\'
-}
-
-/// Reads the bytes of `text` up to the closing quote, which has to be the last byte of `text`.
-pub fn unquoted<A: Allocator>(alloc: A, text: &[u8]) -> Result<Vec<u8, A>, Stop>
-    ensures { Gives (λ x. x.items) result (quotes.unquoted text.now) }
-{
-    let mut bytes = Vec::new(alloc);
-    let mut rest = text;
-    while let [c, after @ ..] = rest {
-        if *c == b'"' {
-            let [] = after else {
-                return Err(Stop::Left(rest.len()));
-            };
-            return Ok(bytes);
-        }
-        if *c == b'\\' {
-            let [d, tail @ ..] = after else {
-                return Err(Stop::Left(rest.len()));
-            };
-            if *d == b'0' {
-                let [b'"'] = tail else {
-                    return Err(Stop::Left(rest.len()));
-                };
-                bytes.push(0)?;
-                return Ok(bytes);
-            }
-            if !is_marked(*d) {
-                return Err(Stop::Left(rest.len()));
-            }
-            bytes.push(*d)?;
-            rest = tail;
-        } else {
-            if !is_printable(*c) {
-                return Err(Stop::Left(rest.len()));
-            }
-            bytes.push(*c)?;
-            rest = after;
-        }
-    }
-    Err(Stop::Left(0))
-}
-
-/// Reads the bytes of `text`, which begins after the opening quote. There has to be at least one byte.
+/// Reads the bytes of `text`, which begins after the opening quote. The closing quote has to be the last byte of
+/// `text`.
 fn text_in<A: Allocator>(alloc: A, text: &[u8]) -> Result<Vec<u8, A>, Stop>
-    ensures found { Gives (λ x. x.items) result (quotes.text_in text.now) }
+    ensures found { Gives (λ x. x.items) result (reading.unquoted text.now) }
     ensures some { IfOk result (λ x. 0 < length x.items) }
 {
-    let bytes = unquoted(alloc, text)?;
-    if bytes.is_empty() {
-        return Err(Stop::Left(text.len()));
+    match unquoted(alloc, text) {
+        Ok(bytes) => Ok(bytes),
+        Err(Unread::Memory) => Err(Stop::Memory),
+        Err(Unread::Wrong(left)) => Err(Stop::Left(left)),
     }
-    Ok(bytes)
 }
 
 /// Reads the count at the front of `text`, and the bytes between quotes after the count. There has to be at least one
@@ -144,14 +92,48 @@ fn begins(whole: &[u8], front: &[u8]) -> bool
     }
 }
 
+/// Returns `true` if `text` may follow the digits of a count: if it is a prefix of a space and a quote, or goes on
+/// between quotes.
+fn may_open(text: &[u8]) -> bool
+    ensures { result ≡ beginnings.may_open text.now }
+{
+    if begins(b" \"", text) {
+        return true;
+    }
+    match skip(text, b" \"") {
+        Some(inner) => may_go_on(inner),
+        None => false,
+    }
+}
+
+/// Returns `true` if `text` may follow the first digit of a count.
+fn may_count(text: &[u8]) -> bool
+    ensures { result ≡ beginnings.may_count text.now }
+{
+    let mut rest = text;
+    while let [c, after @ ..] = rest {
+        if !is_digit(*c) {
+            return may_open(rest);
+        }
+        rest = after;
+    }
+    true
+}
+
 /// Returns `true` if `rest` may follow `bytes ` on a line with bytes between quotes: if `rest` is empty, or begins with
-/// a quote or a digit.
+/// a quote or a digit and goes on with no wrong byte.
 fn may_follow(rest: &[u8]) -> bool
     ensures { result ≡ beginnings.may_follow rest.now }
 {
     match rest {
         [] => true,
-        [c, ..] => *c == b'"' || is_digit(*c),
+        [c, after @ ..] => {
+            if *c == b'"' {
+                may_go_on(after)
+            } else {
+                is_digit(*c) && may_count(after)
+            }
+        }
     }
 }
 

@@ -1,8 +1,9 @@
 //! Tests of the steps to a part of a message, and of the text of that part.
 
 use crate::words::bytes_of;
+use capn_quoted::is_text;
 use capn_show::{
-    Broken, Emitter, Part, Piece, ShowFault, fault_of, is_text, named, put_line_piece, show_found,
+    Broken, Emitter, Part, Piece, ShowFault, fault_of, named, put_line_piece, show_found,
     show_quoted, step_down,
 };
 use capn_walk::laws::values;

@@ -2,8 +2,8 @@
 
 use crate::words::bytes_of;
 use capn_show::{
-    Broken, Piece, ShowFault, fault_of, is_text, plain_line, put, put_line_piece, put_number,
-    show_message, show_quoted,
+    Broken, Piece, ShowFault, fault_of, plain_line, put, put_between_quotes, put_line_piece,
+    put_number, show_message, show_quoted,
 };
 use capn_walk::{Fault, Limits, Stopped};
 use capn_words::{Bare, Place, Watched, Width};
@@ -35,26 +35,6 @@ impl Write for Narrow {
     }
 }
 
-/// Bytes, and whether they are a text.
-const TEXTS: [(&[u8], bool); 9] = [
-    (b"", false),
-    (b"a", true),
-    (b" ~", true),
-    (b"\0", true),
-    (b"ab\0", true),
-    (b"a\0b", false),
-    (b"a\nb", false),
-    (b"a\x7f", false),
-    (b"\x1f", false),
-];
-
-#[test]
-fn bytes_that_are_a_text(rt: HostRuntime) {
-    for (bytes, is_one) in TEXTS {
-        assert!(rt; is_text(bytes) == is_one);
-    }
-}
-
 /// Returns the line of `bytes` between quotes at `level`, after the text `-`.
 fn quoted(alloc: Global, bytes: &[u8], level: u32) -> Result<Vec<u8>, Fail> {
     let mut text = Vec::new(alloc);
@@ -66,7 +46,7 @@ fn quoted(alloc: Global, bytes: &[u8], level: u32) -> Result<Vec<u8>, Fail> {
     }
 }
 
-/// A quote, a backslash and a zero are escaped, and nothing else.
+/// A quote, a backslash, tab, newline, carriage return, a zero and hidden code points are escaped, and nothing else.
 #[test]
 fn lines_between_quotes(rt: HostRuntime) -> Result<(), Fail> {
     let plain = quoted(rt.alloc(), b"a b", 0)?;
@@ -75,6 +55,24 @@ fn lines_between_quotes(rt: HostRuntime) -> Result<(), Fail> {
     assert!(rt; escaped.as_slice() == b"-    bytes 4 \"a\\\"\\\\\\0\"\n".as_slice());
     let empty = quoted(rt.alloc(), b"", 1)?;
     assert!(rt; empty.as_slice() == b"-  bytes 0 \"\"\n".as_slice());
+    let wide = quoted(rt.alloc(), b"\t\r\n\xc3\xb6\xe2\x80\xae\0", 0)?;
+    assert!(rt; wide.as_slice() == b"-bytes 9 \"\\t\\r\\n\xc3\xb6\\u{202e}\\0\"\n".as_slice());
+    Ok(())
+}
+
+#[test]
+fn the_text_between_quotes(rt: HostRuntime) -> Result<(), Fail> {
+    let mut text = Vec::new(rt.alloc());
+    let mut writer = Watched::new(Vec::new(rt.alloc()));
+    assert!(rt;
+        put_between_quotes(
+            &mut text,
+            &mut writer,
+            b"a\"\xf3\xa0\x81\xbf\xf0\x9f\x98\x80\0"
+        )
+        .is_ok()
+    );
+    assert!(rt; text.as_slice() == b"a\\\"\\u{e007f}\xf0\x9f\x98\x80\\0".as_slice());
     Ok(())
 }
 

@@ -19,3 +19,5 @@ mod quoted_room;
 mod reading;
 #[cfg(test)]
 mod streaming;
+#[cfg(test)]
+mod texts;

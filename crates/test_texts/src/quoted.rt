@@ -40,7 +40,7 @@ fn is_same(
 }
 
 /// Inputs that may have quotes, each with the same texts in hexadecimal digits.
-const QUOTED: [(&[u8], &[u8]); 7] = [
+const QUOTED: [(&[u8], &[u8]); 14] = [
     (b"bytes 3 \"abc\"\nend\n", b"bytes 3\n  616263\nend\n"),
     (b"bytes \"abc\"\nend\n", b"bytes 3\n  616263\nend\n"),
     (
@@ -54,6 +54,31 @@ const QUOTED: [(&[u8], &[u8]); 7] = [
     ),
     (b"", b""),
     (b"null\nend\n", b"null\nend\n"),
+    (
+        b"bytes 4 \"h\xc3\xb6\\0\"\nend\n",
+        b"bytes 4\n  68c3b600\nend\n",
+    ),
+    (b"bytes \"a\\nb\\0\"\nend\n", b"bytes 4\n  610a6200\nend\n"),
+    (
+        b"bytes 5 \"\\u{202e}a\\0\"\nend\n",
+        b"bytes 5\n  e280ae6100\nend\n",
+    ),
+    (
+        b"bytes 5 \"\xf0\x9f\x98\x80\\0\"\nend\n",
+        b"bytes 5\n  f09f988000\nend\n",
+    ),
+    (
+        b"bytes \"\\u{ad}\\u{e007f}\\0\"\nend\n",
+        b"bytes 7\n  c2adf3a081bf00\nend\n",
+    ),
+    (
+        b"bytes 4 \"\\t\\r\\\"\\0\"\nend\n",
+        b"bytes 4\n  090d2200\nend\n",
+    ),
+    (
+        b"bytes 5 \"\xf4\x8f\xbf\xbf\\0\"\nend\n",
+        b"bytes 5\n  f48fbfbf00\nend\n",
+    ),
 ];
 
 #[test]
@@ -67,7 +92,7 @@ fn each_quoted(rt: HostRuntime) {
 }
 
 /// Inputs that are refused in the form `stream`, and the reason for each, with the line of the input.
-const REFUSED: [(&[u8], MakeFault); 20] = [
+const REFUSED: [(&[u8], MakeFault); 34] = [
     (b"bytes \"\"\nend\n", MakeFault::NotText(1)),
     (b"bytes 0 \"\"\nend\n", MakeFault::NotText(1)),
     (b"bytes 2 \"abc\"\nend\n", MakeFault::NotText(1)),
@@ -80,6 +105,24 @@ const REFUSED: [(&[u8], MakeFault); 20] = [
     (b"bytes 3 \"a\\0c\"\nend\n", MakeFault::NotText(1)),
     (b"bytes 2 \"a\t\"\nend\n", MakeFault::NotText(1)),
     (b"bytes 2 \"a\x7f\"\nend\n", MakeFault::NotText(1)),
+    // What is written of no text: `\0` is missing, an escape is missing or needless, or the bytes are no clear UTF-8.
+    (b"bytes \"\xc3\xa9\"\nend\n", MakeFault::NotText(1)),
+    (b"bytes \"a\\n\"\nend\n", MakeFault::NotText(1)),
+    (b"bytes \"\\u{41}\\0\"\nend\n", MakeFault::NotText(1)),
+    (b"bytes \"\\u{AD}\\0\"\nend\n", MakeFault::NotText(1)),
+    (b"bytes \"\\u{0ad}\\0\"\nend\n", MakeFault::NotText(1)),
+    (b"bytes \"\\u{}\\0\"\nend\n", MakeFault::NotText(1)),
+    (b"bytes \"\xe2\x80\xae\\0\"\nend\n", MakeFault::NotText(1)),
+    (b"bytes \"\xed\xa0\x80\\0\"\nend\n", MakeFault::NotText(1)),
+    (b"bytes \"\xc0\x80\\0\"\nend\n", MakeFault::NotText(1)),
+    (
+        b"bytes \"\xf4\x90\x80\x80\\0\"\nend\n",
+        MakeFault::NotText(1),
+    ),
+    (b"bytes \"\xc2\x85\\0\"\nend\n", MakeFault::NotText(1)),
+    (b"bytes \"\xc3\\0\"\nend\n", MakeFault::NotText(1)),
+    (b"bytes \"\xc3\xa9\x09\\0\"\nend\n", MakeFault::NotText(1)),
+    (b"bytes 3 \"h\xc3\xb6\\0\"\nend\n", MakeFault::NotText(1)),
     (b"u16 1 \"a\"\nend\n", MakeFault::NotText(1)),
     (b"bytes \"a\"\nnull\nend\n", MakeFault::NotText(2)),
     (b"bytes \"a\"", MakeFault::NotText(1)),
@@ -184,5 +227,8 @@ fn endless_lines(rt: HostRuntime) -> Result<(), std::test::Fail> {
     assert!(rt; left_of(rt.alloc(), b"", b'x')? >= 300_000);
     assert!(rt; left_of(rt.alloc(), b"bytes ", b'x')? >= 300_000);
     assert!(rt; left_of(rt.alloc(), b"  u16 ", b'1')? >= 300_000);
+    // A wrong byte between quotes: the quote after a text that needs a last zero, and a number of no hidden code point.
+    assert!(rt; left_of(rt.alloc(), b"bytes \"\xc3\xa9\"", b'x')? >= 300_000);
+    assert!(rt; left_of(rt.alloc(), b"bytes 9 \"\\u{4", b'1')? >= 300_000);
     Ok(())
 }

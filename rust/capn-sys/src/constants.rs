@@ -47,7 +47,7 @@ pub const CAPN_PLAIN: capn_tariff = 1;
 pub type capn_style = u32;
 /// Lines, as `capn show` writes them.
 pub const CAPN_STYLE_LINES: capn_style = 0;
-/// Lines with printable texts between quotes, as `capn show --text` writes them.
+/// Lines with texts between quotes, as `capn show --text` writes them.
 pub const CAPN_STYLE_TEXT: capn_style = 1;
 /// A line of JSON, as `capn show --json` writes it.
 pub const CAPN_STYLE_JSON: capn_style = 2;

@@ -19,7 +19,7 @@ pub enum Style {
     /// Lines, with the digits of each list of bytes, as `capn show` writes it.
     #[default]
     Lines,
-    /// The same, but a list of printable bytes stands between quotes, as `capn show --text` writes it.
+    /// The same, but a list of bytes that is a text stands between quotes, as `capn show --text` writes it.
     Text,
     /// One line of JSON, as `capn show --json` writes it.
     Json,

@@ -186,7 +186,7 @@ fn a_message_is_shown() {
     );
     assert_eq!(
         shown(&letter, Form::Bare, Style::Text),
-        "bytes 3\n  c3a400\nend\n"
+        "bytes 3 \"ä\\0\"\nend\n"
     );
     let refused = capn::show(&hostile(), Form::Stream, &USUAL, Style::Text).unwrap_err();
     assert_eq!(refused.kind(), Some(Kind::TooDeep));

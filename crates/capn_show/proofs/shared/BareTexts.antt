@@ -16,7 +16,8 @@ use Rattle.capn_show.specs.Descent.{begin, named_by}
 use Rattle.capn_show.specs.Emitted.{Rule, line_rule, is_quoted, emitted, emitted_slots, emitted_rows}
 use Rattle.capn_show.specs.Emitted.{emitted_items, emitted_digits, emitted_numbers}
 use Rattle.capn_show.specs.Emitted.{digit_lines}
-use Rattle.capn_show.specs.Quoting.{is_text, quoted_line, plain_bytes, shown_by, shown_each_by, shown_rows_by}
+use Rattle.capn_quoted.specs.Texts.{is_text}
+use Rattle.capn_show.specs.Quoting.{quoted_line, plain_bytes, shown_by, shown_each_by, shown_rows_by}
 use Rattle.capn_show.specs.ReadyPlaces.{bytes_of}
 
 pub line-is : (level : ℕ) (text : List ℕ) → line level text ≡ replicate (2 * level) 32 ++ (text ++ 10 ∷ [])

@@ -3,9 +3,10 @@ use Rattle.std.specs.Prelude.{ℕ, zero, suc, List, [], ◌∷◌, ◌++◌, cod
 use Rattle.std.specs.Fmt.{decimal}
 use Rattle.capn_words.specs.declared.pointer.Width.{Width}
 use Rattle.capn_words.specs.declared.pointer.Width.TheVariants.{W64}
+use Rattle.capn_quoted.specs.Texts.{is_clear_text}
 use Rattle.capn_show.specs.Emitted.{Rule}
 use Rattle.capn_show.specs.Json.{word_text, number_text, digits_json}
-use Rattle.capn_show.specs.JsonTexts.{is_json_text, text_json, text_or_digits}
+use Rattle.capn_show.specs.JsonTexts.{text_json, text_or_digits}
 use Rattle.capn_show.specs.declared.piece.Piece.{Piece}
 use Rattle.capn_show.specs.declared.piece.Piece.TheVariants as pieces
 
@@ -48,7 +49,7 @@ json_piece pieces.NoDigits = codes "\"}"
 -- The rule of JSON. A list of bytes that is a text is written as a string if `quoted` is true.
 abbrev pub json_rule : Bool → Rule
 json_rule quoted = record {
-  is_text = λ xs. if quoted then is_json_text xs else false;
+  is_text = λ xs. if quoted then is_clear_text xs else false;
   text = λ level xs. text_json xs;
   lies = λ m at. 0;
   below = λ path i. path;

@@ -4,6 +4,6 @@ use Rattle.capn_show.proofs.escapes.bare_run.Goals as goal
 
 pub loop-i-preserved : goal.loop-i-preserved
 loop-i-preserved c =
-    bare-more c.args.json c.args.bytes.now c.loop-i.i c.loop-i-test.true (sym c.is_escaped.ensures ∙
+    bare-more c.args.bytes.now c.loop-i.i c.loop-i-test.true (sym c.is_escaped.ensures ∙
     c.if-is_escaped.false)
     c.loop-i.invariant

@@ -2,8 +2,7 @@ use Rattle.std.proofs.Common.{◌≡◌, ◌∙◌, ◌+◌, ◌-◌, ◌<◌, �
 use Rattle.std.specs.Prelude.{slice_index}
 use Rattle.std.proofs.lemmas.List.{get_or-drop, take_all}
 use Rattle.capn_show.specs.Outgoing.{outgoing}
-use Rattle.capn_show.specs.Quoting.{escapes_by}
-use Rattle.capn_show.specs.ReadyPlaces.{escaped_of}
+use Rattle.capn_show.specs.JsonTexts.{json_escapes}
 use Rattle.capn_show.proofs.Grown.{escapes-more, escapes-cut, escapes-all, bare-more, bare-cut}
 use Rattle.capn_show.proofs.shared.Appended.{otherwise, passed}
 use Rattle.capn_show.proofs.escapes.put_escapes.Goals as goal
@@ -27,7 +26,7 @@ returns-in_err-put-clause-cut g c =
     let after-put = outgoing g.W.Write.contents c.put.new.writer c.put.new.text.items in
     let xs = c.args.bytes.now in
     let done = c.loop-done.done in
-    passed c.from_residual.result c.in_err-put.field-0.0 _ c.from_residual.ensures.1 (bare-cut (escaped_of c.args.json)
+    passed c.from_residual.result c.in_err-put.field-0.0 _ c.from_residual.ensures.1 (bare-cut
     old here xs done after-put c.bare_run-run.result (left_of xs done) (left-is xs done) c.bare_run-run.ensures.bare _
     c.loop-done.invariant.rest c.in_err-put.ensures.cut)
 
@@ -42,7 +41,7 @@ returns-then-run-rest-clause-shown g c =
     let low = c.loop-done.invariant.low in
     let many = left-length xs done in
     let end = c.if-run-rest.true in
-    escapes-all (escaped_of c.args.json) old after-put xs (done + run) (omega arith) (bare-more (escaped_of c.args.json)
+    escapes-all old after-put xs (done + run) (omega arith) (bare-more
     old here xs done after-put run (left_of xs done) (left-is xs done) c.bare_run-run.ensures.bare
     c.loop-done.invariant.rest c.in_ok-put.ensures.shown)
 
@@ -61,8 +60,8 @@ returns-in_err-put_escaped-clause-cut g c =
     let other = c.if-run-rest.false in
     let below : done + run < length xs = omega arith in
     passed c.from_residual-in_err-put_escaped.result c.in_err-put_escaped.field-0.0 _
-    c.from_residual-in_err-put_escaped.ensures.1 (escapes-cut (escaped_of c.args.json) old after-put xs (done + run) new
-    _ (slice_index (left_of xs done) run) below (left-at xs done run) (bare-more (escaped_of c.args.json) old here xs
+    c.from_residual-in_err-put_escaped.ensures.1 (escapes-cut old after-put xs (done + run) new
+    _ (slice_index (left_of xs done) run) below (left-at xs done run) (bare-more old here xs
     done after-put run (left_of xs done) (left-is xs done) c.bare_run-run.ensures.bare c.loop-done.invariant.rest
     c.in_ok-put.ensures.shown) c.in_err-put_escaped.ensures.cut)
 
@@ -83,11 +82,11 @@ loop-done-preserved g c =
     let step : done + run + 1 ≡ done + (run + 1) = omega arith in
     record {
       low = omega arith;
-      rest = otherwise old new _ _ (ap (λ (k : ℕ). escapes_by (escaped_of c.args.json) (take k xs)) step)
-          (escapes-more (escaped_of c.args.json) old after-put xs (done + run) new (slice_index (left_of xs done) run)
+      rest = otherwise old new _ _ (ap (λ (k : ℕ). json_escapes (take k xs)) step)
+          (escapes-more old after-put xs (done + run) new (slice_index (left_of xs done) run)
           below
           (left-at xs done run)
-          (bare-more (escaped_of c.args.json) old here xs done after-put run (left_of xs done) (left-is xs done)
+          (bare-more old here xs done after-put run (left_of xs done) (left-is xs done)
           c.bare_run-run.ensures.bare
           c.loop-done.invariant.rest c.in_ok-put.ensures.shown)
           c.in_ok-put_escaped.ensures.shown);

@@ -1,0 +1,5 @@
+pub mod Texts
+pub mod Hidden
+pub mod Escapes
+pub mod Reading
+pub mod Laws
