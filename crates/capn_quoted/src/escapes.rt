@@ -13,14 +13,7 @@ fn may_be_escaped(byte: u8) -> bool
     ensures bare { result ≡ false → spec.escaped byte ≡ byte ∷ [] }
     ensures low { result ≡ false → byte < 192 }
 {
-    // A lower-case letter comes after the backslash, and takes two comparisons.
-    if byte > b'\\' {
-        byte >= 192
-    } else if byte > b'"' {
-        byte == b'\\'
-    } else {
-        byte < 32 || byte == b'"'
-    }
+    byte < 32 || byte == b'"' || byte == b'\\' || byte >= 192
 }
 
 /// Returns the number of bytes at the front of `bytes` that stand as they are between quotes. The result is at most
