@@ -137,7 +137,8 @@ pub fn canonicalise_of<A: Allocator + Copy, B: AskedInput>(
     ensures pays { IfOk result (λ c. (v : Value) → Denotes form (B.bytes bytes) limits v
         → PaysItsCost c.bytes.items limits v) }
     // The canonical bytes of `v` are also the canonical bytes of the trimmed value of `v`.
-    ensures own { IfOk result (λ c. (v : Value) → Denotes form (B.bytes bytes) limits v → IsItsOwnForm c.bytes.items v) }
+    ensures own { IfOk result (λ c. (v : Value) → Denotes form (B.bytes bytes) limits v
+        → IsItsOwnForm c.bytes.items v) }
     // A value that fits and is in range has the same canonical bytes as `v` if and only if it is the same as `v`
     // (`Same`).
     ensures exactly { IfOk result (λ c. (v : Value) → Denotes form (B.bytes bytes) limits v

@@ -1,5 +1,6 @@
--- Each word belongs to the visit of a word of the message that is followed, and so is marked by the object of that slot.
-use Rattle.std.proofs.Common.{◌≡◌, ℕ, zero, suc, ◌+◌, ◌*◌, ◌<◌, ◌==◌, Bool, true, false, ◌&&◌, ◌||◌, if◌then◌else◌}
+-- Each word belongs to the visit of a word of the message that is followed, and so is marked by the object of that
+-- slot.
+use Rattle.std.proofs.Common.{◌≡◌, ℕ, suc, ◌+◌, ◌*◌, ◌<◌, ◌==◌, Bool, true, false, ◌&&◌, ◌||◌, if◌then◌else◌}
 use Rattle.std.proofs.Common.{List, [], ◌∷◌, length, get_or, replicate, Option, Some, None, Result, Ok, Err}
 use Rattle.std.proofs.Common.{refl, ap, ap₂, sym, ◌∙◌, arith}
 use Rattle.std.proofs.lemmas.List.{length-replicate}
@@ -53,7 +54,8 @@ module _ (m : List (List ℕ)) where
 
   -- the mark of a word is that of its cover
   pub marked-cover : (cs : List Covering) (w : ℕ) → marked m w (uncut (cover_at m cs w)) ≡ cover_at m cs w
-  marked-cover cs w = ap (λ (x : Covered). record x { holder = holder cs 0 w; is_followed = is_followed cs w }) (same cs)
+  marked-cover cs w =
+      ap (λ (x : Covered). record x { holder = holder cs 0 w; is_followed = is_followed cs w }) (same cs)
     where
       same : (ds : List Covering) → marked m w (uncut (belongs_at m ds w)) ≡ belongs_at m ds w
       same [] = ap (λ (b : Bool). record unreached { cut = b }) (not-cut 0 w)

@@ -217,7 +217,8 @@ module _ (m : List (List ℕ)) where
         first false = refl
     belongs-by false true i =
         rest true
-        ∙ ap₂ (λ (k : ℕ) (b : Bool). uncut (record (belongs_at m cs w) { holder = k; is_followed = b })) (held i) (said i)
+        ∙ ap₂ (λ (k : ℕ) (b : Bool). uncut (record (belongs_at m cs w) { holder = k; is_followed = b })) (held i)
+        (said i)
       where
         held : (b : Bool) → ◌≡◌ {A = ℕ} 0 (if b then 0 else 0)
         held true = refl

@@ -10,7 +10,7 @@ use Rattle.capn_cover.specs.declared.covered.Covered.{Covered}
 use Rattle.capn_cover.specs.declared.covered.Role.{Role}
 use Rattle.capn_cover.specs.Covers.{Covering, unreached}
 use Rattle.capn_cover.specs.inner.Laid.{first_covered, covered_again, once_more, followed, followed_in}
-use Rattle.capn_cover.specs.inner.Laid.{touched_in, touched, laid, HasRoom}
+use Rattle.capn_cover.specs.inner.Laid.{touched, laid, HasRoom}
 
 pub laid-append : (m : List (List ℕ)) (xs ys : List Covering) (cells : List Covered)
     → laid m (xs ++ ys) cells ≡ laid m ys (laid m xs cells)

@@ -35,7 +35,8 @@ module _ (m : List (List ℕ)) (old : List Covered) (fresh : AreUnmarked old) wh
     same-slot v l =
         ap (λ (x : Covered). x.slot) (h.each v l) ∙ slot-kept v (nat_lt (get_or old v unreached).slot n)
 
-    same-followed : (v : ℕ) → v < length old → (get_or new v unreached).is_followed ≡ (get_or old v unreached).is_followed
+    same-followed : (v : ℕ) → v < length old
+        → (get_or new v unreached).is_followed ≡ (get_or old v unreached).is_followed
     same-followed v l =
         ap (λ (x : Covered). x.is_followed) (h.each v l) ∙ followed-kept v (nat_lt (get_or old v unreached).slot n)
 

@@ -1,6 +1,6 @@
 -- Each covering is by the visit of a slot of the message.
 use Rattle.std.proofs.Common.{◌≡◌, ◌⊎◌, inl, inr, ℕ, zero, suc, ◌+◌, ◌-◌, ◌*◌, ◌<◌, ◌≤◌, List, [], ◌∷◌, ◌++◌}
-use Rattle.std.proofs.Common.{length, Result, Ok, Err, refl, ap, subst, arith}
+use Rattle.std.proofs.Common.{length, Result, Ok, Err, refl, ap, arith}
 use Rattle.std.specs.Prelude.{⊤}
 use Rattle.std.specs.List.{flat_map}
 use Rattle.std.proofs.lemmas.Bool.{cases_lt}
@@ -156,8 +156,8 @@ module _ (P : ℕ → Type 0) where
   slots-covers m at (Err e) is = tt
 
 module _ (m : List (List ℕ)) (P : ℕ → Type 0) (is : (p : Place) → IsPlace m p → P (number m p)) where
-  -- the statement holds of the slots whose visits cover words, at most `d` objects deep, if it holds of each slot of the
-  -- message
+  -- the statement holds of the slots whose visits cover words, at most `d` objects deep, if it holds of each slot of
+  -- the message
   go-places : (g : Place → List Covering) → ((p : Place) → IsPlace m p → AllSlots P (g p)) → (ps : List Place)
       → ArePlaces m ps → AllSlots P (flat_map g ps)
   go-places g goes [] h = tt

@@ -140,7 +140,8 @@ module _ (message : List (List ℕ)) where
     cut = is_cut message c.slot c.role w;
   }
 
-  -- the same for a list of coverings: the first covering of the word says where the word belongs to and what it is there
+  -- the same for a list of coverings: the first covering of the word says where the word belongs to and what it is
+  -- there
   abbrev pub belongs_at : List Covering → (w : ℕ) → Covered
   belongs_at [] w = unreached
   belongs_at (c ∷ cs) w = if c.word == w then belonging c cs w else belongs_at cs w

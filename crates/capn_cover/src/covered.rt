@@ -33,9 +33,9 @@ pub struct Covered {
     /// The number of the slot whose visit is the first that covers the word: how many words of the message lie before
     /// that slot. For the root's slot, and for a word that nothing covers, 0.
     pub slot: u32,
-    /// For a word that is followed as a slot, the number of the slot through whose object the walk first comes to it. For
-    /// another slot, the number of the last slot to whose object it belongs as a slot. For the root's slot, and for a
-    /// word that no visit covers as a slot, 0.
+    /// For a word that is followed as a slot, the number of the slot through whose object the walk first comes to it.
+    /// For another slot, the number of the last slot to whose object it belongs as a slot. For the root's slot, and for
+    /// a word that no visit covers as a slot, 0.
     pub holder: u32,
     /// The role of the word there.
     pub role: Role,

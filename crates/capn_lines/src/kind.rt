@@ -5,7 +5,7 @@ ghost use Rattle.capn_lines.specs.Kinds as spec;
 
 use capn_cover::Role;
 
-/// What a word of a message is.
+/// The kind of a word of a message.
 #[derive(Clone, Copy, Debug, PartialEq, Eq)]
 pub enum Kind {
     /// A slot that is not zero.
@@ -63,7 +63,7 @@ pub fn may_join(kind: Kind, next: Kind) -> bool
     }
 }
 
-/// Tests whether two kinds are the same.
+/// Tests whether `kind` and `other` are the same.
 pub fn is_kind(kind: Kind, other: Kind) -> bool
     ensures { result ≡ spec.is_kind kind other }
 {

@@ -11,17 +11,17 @@ pub struct Line {
     pub place: Place,
     /// The number of words, 1 or more.
     pub words: u32,
-    /// How often each of the words is covered.
+    /// The number of times that each of the words is covered.
     pub times: u32,
     /// The kind of the words.
     pub kind: Kind,
     /// The number of the slot to whose visit the words belong: how many words of the message lie before that slot. For
     /// the root's slot, and for words that nothing covers, 0.
     pub slot: u32,
-    /// How many of the words canonical bytes leave out of the object to which they belong.
+    /// The number of the words that canonical bytes leave out of the object to which they belong.
     pub cut: u32,
-    /// How many of the words are not zero.
+    /// The number of the words that are not zero.
     pub not_zero: u32,
-    /// Whether two that cover the first word differ.
+    /// Set if two that cover the first word differ.
     pub overlap: bool,
 }

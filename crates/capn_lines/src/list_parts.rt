@@ -12,7 +12,7 @@ use capn_target::content_words;
 use capn_walk::{Shape, Target, resolve};
 use capn_words::{Place, Space, Width};
 
-/// What the words of a line have of their list. (Our own.)
+/// The part of a list that lies in the words of a line. (Our own.)
 #[derive(Clone, Copy, Debug, PartialEq, Eq)]
 pub struct ListPart {
     /// The width of the list's elements, `W0` if the line's slot leads to no list.
@@ -21,12 +21,12 @@ pub struct ListPart {
     pub first: u64,
     /// The number of elements in these words.
     pub count: u64,
-    /// Whether the last of these words is the list's last word.
+    /// Set if the last of these words is the list's last word.
     pub last: bool,
     /// The number of bits behind the last element of the list, 0 to 63. If the list's last word is not among these
     /// words, 0.
     pub padding: u32,
-    /// Whether one of these bits is 1.
+    /// Set if one of these bits is 1.
     pub padding_not_zero: bool,
 }
 

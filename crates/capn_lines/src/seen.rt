@@ -16,7 +16,7 @@ pub struct Seen {
     pub word: u64,
     /// The kind of the word.
     pub kind: Kind,
-    /// What covers the word.
+    /// The cover of the word.
     pub covered: Covered,
 }
 
@@ -42,7 +42,7 @@ pub fn seen_at<S: Space>(space: &S, before: &[u32], words: &[Covered], at: Place
     }
 }
 
-/// Tests whether two words one after another may stand in one line.
+/// Tests whether `first`, and `next` behind it, may stand in one line.
 #[inline(always)]
 pub fn is_alike(first: Seen, next: Seen) -> bool
     ensures { result ≡ spec.is_alike first.kind first.covered next.kind next.covered }
