@@ -124,11 +124,13 @@ interop: $(if $(CAPN),,beside)
 	./tests/pages/beside
 	./tests/reference/run
 	./tests/reference/differences
-	@if command -v python3 > /dev/null; then ./tests/reference/vectors && ./tests/reference/pairs; \
-	else echo "vectors, pairs: skipped, since there is no python3"; fi
+	@if command -v python3 > /dev/null; then ./tests/reference/vectors && ./tests/reference/pairs && \
+		./tests/reference/orphans; else echo "vectors, pairs, orphans: skipped, since there is no python3"; fi
 	./tests/reference/debian-13
 	@if command -v python3 > /dev/null; then ./tests/program/archives && ./tests/program/marks && ./tests/program/texts \
-		&& ./tests/program/memory; else echo "archives, marks, texts, memory: skipped, since there is no python3"; fi
+		&& ./tests/program/annotations && ./tests/program/memory; \
+	else echo "archives, marks, texts, annotations, memory: skipped, since there is no python3"; fi
+	./contrib/annotate/run
 	./contrib/dask/run
 	@if command -v python3 > /dev/null; then ./tests/python/run && ./tests/python/sanitized && ./tests/reference/hostile; \
 	else echo "python, hostile: skipped, since there is no python3"; fi
