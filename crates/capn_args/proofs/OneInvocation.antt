@@ -8,10 +8,10 @@ use Rattle.capn_show.specs.declared.style.Style.{Style}
 use Rattle.capn_show.specs.declared.style.Style.TheVariants as styles
 use Rattle.capn_walk.specs.Limits.{Bounds}
 use Rattle.capn_args.specs.OptionValues.{FlagIs, FormIs, NumberIs, form_name}
-use Rattle.capn_args.specs.Meaning.{AreOptions, AreSame, CmpIs, ExplainIs, ExplanationIs, FilterIs, HasOptions}
-use Rattle.capn_args.specs.Meaning.{IsNumbered, IsSamePath, MakeIs, MarksAre, MeansInvocation, MeansOneInvocation}
-use Rattle.capn_args.specs.Meaning.{OnlyIs, PathIs, PickIs, RefusedIs, ShowIs, StyleIs, TaskIs, UniqIs}
-use Rattle.capn_args.specs.Meaning.{is_plain, name_of, task_name, usual_with}
+use Rattle.capn_args.specs.Meaning.{AnnotateIs, AreOptions, AreSame, CmpIs, ExplainIs, ExplanationIs, FilterIs}
+use Rattle.capn_args.specs.Meaning.{HasOptions, IsNumbered, IsSamePath, MakeIs, MarksAre, MeansInvocation}
+use Rattle.capn_args.specs.Meaning.{MeansOneInvocation, OnlyIs, PathIs, PickIs, RefusedIs, ShowIs, StyleIs, TaskIs}
+use Rattle.capn_args.specs.Meaning.{UniqIs, is_plain, name_of, task_name, usual_with}
 use Rattle.capn_commands.specs.Plan.{form_of}
 use Rattle.capn_commands.specs.declared.plan.MessageText.TheVariants as pieces
 use Rattle.capn_args.proofs.ByName.{Kind, Named, differ, named_one}
@@ -19,6 +19,7 @@ use Rattle.capn_args.proofs.OneMeaning.{Equal, canonicals, packs, unpacks, write
 use Rattle.capn_args.proofs.OneMeaning.{flag_one, form_one, limits_one, not_both, number_one}
 use Rattle.capn_commands.specs.declared.command.Command.{Command}
 use Rattle.capn_commands.specs.declared.command.Command.TheVariants as commands
+use Rattle.capn_annotate.specs.declared.annotate_order.AnnotateOrder.{AnnotateOrder}
 use Rattle.capn_archive.specs.declared.task.ArchiveOrder.{ArchiveOrder}
 use Rattle.capn_archive.specs.declared.task.Task.{Task}
 use Rattle.capn_archive.specs.declared.task.Task.TheVariants as tasks
@@ -56,6 +57,14 @@ archive_one rows a b e s (f, l, k) t (g, m, j) =
     let limits : a.limits ≡ b.limits = limits_one rows a.limits b.limits l m in
     let going : a.keep_going ≡ b.keep_going = flag_one rows (codes "keep-going") a.keep_going b.keep_going k j in
     λ i. invocations.Archive (record { task = task i; form = form i; limits = limits i; keep_going = going i })
+
+pub annotate_one : (rows : List Row) (u v : AnnotateOrder) → AnnotateIs rows u → AnnotateIs rows v
+    → invocations.Annotate u ≡ invocations.Annotate v
+annotate_one rows u v (f, l, s) (g, m, t) =
+    let form : u.form ≡ v.form = form_one u.form v.form (sym f ∙ g) in
+    let limits : u.limits ≡ v.limits = limits_one rows u.limits v.limits l m in
+    let summary : u.summary ≡ v.summary = flag_one rows (codes "summary") u.summary v.summary s t in
+    λ i. invocations.Annotate (record { form = form i; limits = limits i; summary = summary i })
 
 pub uniq_one : (rows : List Row) (u v : UniqOrder) → UniqIs rows u → UniqIs rows v
     → invocations.Uniq u ≡ invocations.Uniq v
@@ -303,6 +312,7 @@ abbrev pub kinds : List (Text × Kind AreSame)
 kinds = (codes "show", either plain_shows shows not_plain)
     ∷ (codes "check", messages (writes pieces.Price) IsAny)
     ∷ (codes "explain", orders (λ (x : Explanation). invocations.Explain x) explanation_one)
+    ∷ (codes "annotate", orders (λ (a : AnnotateOrder). invocations.Annotate a) annotate_one)
     ∷ (codes "list", archives (codes "list"))
     ∷ (codes "canonical", either whole_canonicals (archives (codes "canonical")) not_framed)
     ∷ (codes "hash", messages (writes pieces.Digest) IsAny)
@@ -338,6 +348,7 @@ sorted rows (invocations.Message (commands.One pieces.Digest f l)) is =
     (commands.One pieces.Digest f l, (f, l, true, is.0, refl), is.1, refl)
 sorted rows (invocations.Show s) is = inr (s, is, refl)
 sorted rows (invocations.Explain x) is = (x, is, refl)
+sorted rows (invocations.Annotate a) is = (a, is, refl)
 sorted rows (invocations.Archive a) is = sorted_archive rows a a.task refl is.0 is.1
 sorted rows (invocations.Uniq u) is = (u, is, refl)
 sorted rows (invocations.Filter f) is = (f, is, refl)

@@ -60,21 +60,21 @@ HasLine command line = (app_of command ≡ line) × ((out-Command command).has_g
 
 -- The commands that take `--budget`, `--depth` and `--tariff`.
 abbrev pub limited : List Text
-limited = codes "show" ∷ codes "check" ∷ codes "explain" ∷ codes "list" ∷ codes "limits" ∷ codes "canonical"
-    ∷ codes "hash" ∷ codes "uniq" ∷ codes "filter" ∷ codes "cmp" ∷ []
+limited = codes "show" ∷ codes "check" ∷ codes "explain" ∷ codes "annotate" ∷ codes "list" ∷ codes "limits"
+    ∷ codes "canonical" ∷ codes "hash" ∷ codes "uniq" ∷ codes "filter" ∷ codes "cmp" ∷ []
 
 -- The commands over messages that take limits and the form `bare`.
 abbrev pub unframed : List Text
-unframed = codes "show" ∷ codes "check" ∷ codes "explain" ∷ codes "list" ∷ codes "limits" ∷ codes "canonical"
-    ∷ codes "hash" ∷ codes "uniq" ∷ codes "filter" ∷ []
+unframed = codes "show" ∷ codes "check" ∷ codes "explain" ∷ codes "annotate" ∷ codes "list" ∷ codes "limits"
+    ∷ codes "canonical" ∷ codes "hash" ∷ codes "uniq" ∷ codes "filter" ∷ []
 
 -- The options, each listed with the commands that take it. An option that is listed several times has several texts in
 -- the help.
 abbrev pub options : List (Rule × List Text)
 options = (
   form_rule,
-  codes "show" ∷ codes "check" ∷ codes "explain" ∷ codes "list" ∷ codes "limits" ∷ codes "hash"
-      ∷ codes "uniq" ∷ codes "filter" ∷ [],
+  codes "show" ∷ codes "check" ∷ codes "explain" ∷ codes "annotate" ∷ codes "list" ∷ codes "limits"
+      ∷ codes "hash" ∷ codes "uniq" ∷ codes "filter" ∷ [],
 )
     ∷ (form_rule, codes "canonical" ∷ [])
     ∷ (form_rule, codes "cmp" ∷ codes "pick" ∷ [])
@@ -92,6 +92,7 @@ options = (
     ∷ (flag_rule (codes "ways"), codes "show" ∷ [])
     ∷ (flag_rule (codes "one"), codes "show" ∷ codes "check" ∷ codes "hash" ∷ [])
     ∷ (asked_rule (codes "number"), codes "explain" ∷ [])
+    ∷ (flag_rule (codes "summary"), codes "annotate" ∷ [])
     ∷ (flag_rule (codes "framed"), codes "canonical" ∷ [])
     ∷ (flag_rule (codes "keep-going"), codes "list" ∷ codes "limits" ∷ codes "uniq" ∷ codes "filter" ∷ [])
     ∷ (flag_rule (codes "keep-going"), codes "canonical" ∷ [])
@@ -109,9 +110,9 @@ options = (
 
 -- The commands.
 abbrev pub commands : List Text
-commands = codes "show" ∷ codes "check" ∷ codes "explain" ∷ codes "list" ∷ codes "limits" ∷ codes "canonical"
-    ∷ codes "hash" ∷ codes "uniq" ∷ codes "filter" ∷ codes "cmp" ∷ codes "pick" ∷ codes "pack" ∷ codes "unpack"
-    ∷ codes "make" ∷ []
+commands = codes "show" ∷ codes "check" ∷ codes "explain" ∷ codes "annotate" ∷ codes "list" ∷ codes "limits"
+    ∷ codes "canonical" ∷ codes "hash" ∷ codes "uniq" ∷ codes "filter" ∷ codes "cmp" ∷ codes "pick" ∷ codes "pack"
+    ∷ codes "unpack" ∷ codes "make" ∷ []
 
 -- The parser `line` with those options of the list that the command `name` takes.
 abbrev pub with_options : Text → App → List (Rule × List Text) → App

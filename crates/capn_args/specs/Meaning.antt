@@ -10,6 +10,7 @@ use Rattle.capn_walk.specs.Limits.{Bounds}
 use Rattle.capn_canon.specs.declared.form.Form.{Form}
 use Rattle.capn_commands.specs.declared.command.Command.{Command}
 use Rattle.capn_commands.specs.declared.command.Command.TheVariants as commands
+use Rattle.capn_annotate.specs.declared.annotate_order.AnnotateOrder.{AnnotateOrder}
 use Rattle.capn_archive.specs.declared.filter_order.FilterOrder.{FilterOrder}
 use Rattle.capn_cmp.specs.declared.cmp_order.CmpOrder.{CmpOrder}
 use Rattle.capn_commands.specs.declared.plan.MessageText.{MessageText}
@@ -44,6 +45,11 @@ use Rattle.capn_args.specs.declared.invocation.Invocation.TheVariants as invocat
 abbrev pub AreOptions : List Row → ArchiveOrder → Type 0
 AreOptions rows archive = FormIs rows archive.form × LimitsAre rows archive.limits
     × FlagIs rows (codes "keep-going") archive.keep_going
+
+-- In `rows`, the options of `annotate` have the values in `annotate`.
+abbrev pub AnnotateIs : List Row → AnnotateOrder → Type 0
+AnnotateIs rows annotate = FormIs rows annotate.form × LimitsAre rows annotate.limits
+    × FlagIs rows (codes "summary") annotate.summary
 
 -- In `rows`, the options of `uniq` have the values in `uniq`.
 abbrev pub UniqIs : List Row → UniqOrder → Type 0
@@ -232,6 +238,7 @@ abbrev pub name_of : Invocation → Text
 name_of (invocations.Message command) = command_name command
 name_of (invocations.Show show) = codes "show"
 name_of (invocations.Explain explain) = codes "explain"
+name_of (invocations.Annotate annotate) = codes "annotate"
 name_of (invocations.Archive archive) = task_name archive.task
 name_of (invocations.Uniq uniq) = codes "uniq"
 name_of (invocations.Filter filter) = codes "filter"
@@ -246,6 +253,7 @@ abbrev pub HasOptions : List Row → Invocation → Type 0
 HasOptions rows (invocations.Message command) = CommandIs rows command × HasNoFlag rows command
 HasOptions rows (invocations.Show show) = ShowIs rows show
 HasOptions rows (invocations.Explain explain) = ExplanationIs rows explain
+HasOptions rows (invocations.Annotate annotate) = AnnotateIs rows annotate
 HasOptions rows (invocations.Archive archive) = TaskIs rows archive.task × AreOptions rows archive
 HasOptions rows (invocations.Uniq uniq) = UniqIs rows uniq
 HasOptions rows (invocations.Filter filter) = FilterIs rows filter

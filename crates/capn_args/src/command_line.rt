@@ -4,14 +4,15 @@ ghost use Rattle.std.specs.Prelude.{◌≡◌, ◌≢◌, List, [], true, codes,
 ghost use Rattle.std.specs.Prelude.{IfErr, IfOk, IfSome, IsSome, Some};
 ghost use Rattle.clap.specs.Words.{Row, fault_of, found_of, kind_of, rows_of, subcommand_of, takes};
 ghost use Rattle.capn_args.specs.Usage.{error_of, IsReason, GivesInvocation};
+ghost use Rattle.capn_annotate.specs.declared.annotate_order.AnnotateOrder.{AnnotateOrder};
 ghost use Rattle.capn_archive.specs.declared.filter_order.FilterOrder.{FilterOrder};
 ghost use Rattle.capn_cmp.specs.declared.cmp_order.CmpOrder.{CmpOrder};
 ghost use Rattle.capn_archive.specs.declared.task.ArchiveOrder.{ArchiveOrder};
 ghost use Rattle.capn_archive.specs.declared.task.Task.{Task};
 ghost use Rattle.capn_archive.specs.declared.uniq_order.UniqOrder.{UniqOrder};
 ghost use Rattle.capn_args.specs.CommandLine.{program_line};
-ghost use Rattle.capn_args.specs.Meaning.{AreOptions, CmpIs, FilterIs, MakeIs, MeansInvocation, TaskIs};
-ghost use Rattle.capn_args.specs.Meaning.{UniqIs, task_name};
+ghost use Rattle.capn_args.specs.Meaning.{AnnotateIs, AreOptions, CmpIs, FilterIs, MakeIs, MeansInvocation};
+ghost use Rattle.capn_args.specs.Meaning.{TaskIs, UniqIs, task_name};
 ghost use Rattle.capn_args.specs.declared.invocation.Make.{Make};
 ghost use Rattle.capn_args.specs.declared.invocation.Invocation.{Invocation};
 
@@ -24,6 +25,7 @@ use crate::pick_options::pick_invocation;
 use crate::show_options::show_of;
 use crate::subcommands::program_command;
 use crate::usage::Usage;
+use capn_annotate::AnnotateOrder;
 use capn_archive::{ArchiveOrder, FilterOrder, Task, UniqOrder};
 use capn_cmp::CmpOrder;
 use capn_commands::{Command, MessageText};
@@ -92,6 +94,18 @@ fn list_of<'a>(matches: &ArgMatches<'a>) -> Option<Invocation<'a>>
         Task::List
     };
     Some(Invocation::Archive(archive_of(task, matches)?))
+}
+
+fn annotate_of(matches: &ArgMatches) -> Option<AnnotateOrder>
+    ensures are { IfSome result (AnnotateIs (rows_of (found_of matches.now))) }
+    ensures served { (annotate : AnnotateOrder) → AnnotateIs (rows_of (found_of matches.now)) annotate
+        → IsSome result }
+{
+    Some(AnnotateOrder {
+        form: form_of(matches)?,
+        limits: limits_of(matches)?,
+        summary: flag_of(matches, "summary")?,
+    })
 }
 
 fn uniq_of(matches: &ArgMatches) -> Option<UniqOrder>
@@ -232,6 +246,7 @@ fn named_invocation<'a>(name: &str, matches: &ArgMatches<'a>) -> Option<Invocati
         "show" => show_of(matches),
         "check" => check_of(matches),
         "explain" => Some(Invocation::Explain(explain_of(matches)?)),
+        "annotate" => Some(Invocation::Annotate(annotate_of(matches)?)),
         "list" => list_of(matches),
         "canonical" => canonical_of(matches),
         "uniq" => Some(Invocation::Uniq(uniq_of(matches)?)),

@@ -1,5 +1,6 @@
 //! The types of the invocations, with one variant for each run. `Meaning.antt` states which words mean each variant.
 
+use capn_annotate::AnnotateOrder;
 use capn_archive::{ArchiveOrder, FilterOrder, UniqOrder};
 use capn_canon::Form;
 use capn_cmp::CmpOrder;
@@ -76,6 +77,8 @@ pub enum Invocation<'a> {
     Show(Show<'a>),
     /// Explains one message of an input of any length, or every refused one.
     Explain(Explanation),
+    /// Writes a line for all words of each message of an input, or how many words it has of each kind.
+    Annotate(AnnotateOrder),
     /// Runs `list`, `limits` or `canonical --framed` over an archive of any length.
     Archive(ArchiveOrder),
     /// Writes the messages of an archive without duplicates, or only the numbers of different messages and of all.

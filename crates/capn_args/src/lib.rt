@@ -45,6 +45,7 @@ pub use subcommands::program_command;
 pub use usage::Usage;
 
 // Types of the signatures above.
+pub use capn_annotate::AnnotateOrder;
 pub use capn_archive::{ArchiveOrder, FilterOrder, Task, UniqOrder};
 pub use capn_canon::{Form, Limits, Tariff};
 pub use capn_cmp::CmpOrder;

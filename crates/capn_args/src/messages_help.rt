@@ -116,6 +116,49 @@ With status 1 or 3, one line on standard error says why, or two lines with
 `--keep-going`. The manual page has these lines under DIAGNOSTICS.",
 };
 
+/// The page for `annotate`.
+pub const ANNOTATE: Page = Page {
+    first: "To see what each word of a message is, and which words no pointer refers to:
+  capn annotate < message
+  capn annotate < message | grep 'not zero'
+To find the messages that hold something that no reader sees:
+  capn annotate --summary < messages | grep -v ' hidden 0 '",
+    usage: "capn annotate [OPTIONS] < INPUT",
+    about: "Writes what each word of each message is, and how often it is read",
+    more: "Each word of the segment table and of the segments is in one line. Words that
+belong together share a line. A line has seven columns with tabs between them:
+  OFFSET  the byte of its first word. Bytes count from the beginning of the
+          input, with `--form packed` in what it unpacks to
+  PLACE   the segment and the word, as in `0:3`, or `0:3-5` for words 3 to 5
+  BYTES   the bytes of its first word in the order in which they lie, with `..`
+          after them if the line has more words
+  TIMES   how often the words are read if every pointer is followed
+  KIND    `pointer`, `null`, `pad` of a far pointer, `tag`, `data`, `list`, which
+          are numbers, bytes or bits, `slack`, which is behind the structs of a
+          list, `unreached`, which no pointer refers to, or `table`
+  WAY     the path to what the first word belongs to, as `show --ways` writes it
+  TEXT    what the words say. `cut` are words that canonical bytes leave out.
+          `overlap` says that two objects that differ have the same words
+A text goes between quotes, as `show --text` writes it, but at most 32 bytes.
+The last line of a message has the byte after the message, `end`, and counts of
+its words: of all, of each kind, of those that are read twice and more
+(`shared`), of those in overlaps, of those that are cut, and of its canonical
+bytes, or `-` if it has a capability. `hidden` counts the words of `slack` and
+`unreached` that aren't zero, and the lists whose padding isn't. It is no more
+than that: some bits of pointers are read by nobody either, such as the offset
+in the second word of a landing pad.
+The lines of a message are written as soon as it is complete.
+
+Exit status:
+  0  Done
+  1  A message was rejected; the lines of those before it have been written
+  2  The command line is wrong
+  3  Reading or writing failed, the input is longer than 2^64 - 1 bytes, or
+     memory ran out
+With status 1 or 3, one line on standard error says why. The manual page has
+these lines under DIAGNOSTICS.",
+};
+
 /// The page for `hash`.
 pub const HASH: Page = Page {
     first: "To sign messages, or to compare and find them by their values:

@@ -10,6 +10,7 @@ const LIMITED: &[&str] = &[
     "show",
     "check",
     "explain",
+    "annotate",
     "list",
     "limits",
     "canonical",
@@ -24,6 +25,7 @@ const UNFRAMED: &[&str] = &[
     "show",
     "check",
     "explain",
+    "annotate",
     "list",
     "limits",
     "canonical",
@@ -33,10 +35,11 @@ const UNFRAMED: &[&str] = &[
 ];
 
 /// The commands, in the order in which help lists them.
-pub const COMMANDS: [&str; 14] = [
+pub const COMMANDS: [&str; 15] = [
     "show",
     "check",
     "explain",
+    "annotate",
     "list",
     "limits",
     "canonical",
@@ -56,6 +59,7 @@ pub(crate) fn page_of(name: &str) -> Page {
         "show" => messages_help::SHOW,
         "check" => messages_help::CHECK,
         "explain" => messages_help::EXPLAIN,
+        "annotate" => messages_help::ANNOTATE,
         "list" => archives_help::LIST,
         "limits" => archives_help::LIMITS,
         "canonical" => archives_help::CANONICAL,
@@ -71,7 +75,7 @@ pub(crate) fn page_of(name: &str) -> Page {
 }
 
 /// The options. The help of a command lists its options in this order.
-pub const OPTIONS: [OptionRow; 30] = [
+pub const OPTIONS: [OptionRow; 31] = [
     OptionRow {
         name: "form",
         taken: FORM,
@@ -80,7 +84,7 @@ segment tables; `packed`, the same, packed; or `bare`,
 one message of one segment without a table, such as
 canonical bytes",
         commands: &[
-            "show", "check", "explain", "list", "limits", "hash", "uniq", "filter",
+            "show", "check", "explain", "annotate", "list", "limits", "hash", "uniq", "filter",
         ],
     },
     OptionRow {
@@ -201,6 +205,13 @@ A bare input is always one",
         help: "The number of the message to explain, from 1; by
 default it is the first one that is rejected",
         commands: &["explain"],
+    },
+    OptionRow {
+        name: "summary",
+        taken: Taken::Flag,
+        help: "Write one line for each message, with its number and
+its place, and the counts of its words",
+        commands: &["annotate"],
     },
     OptionRow {
         name: "framed",

@@ -7,4 +7,5 @@ pub mod Course
 pub mod Flushed
 pub mod Unordered
 pub mod CmpEnd
+pub mod AnnotateRun
 pub mod Program

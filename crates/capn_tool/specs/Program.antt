@@ -21,6 +21,7 @@ use Rattle.capn_explain.specs.declared.fault.ReportFault.TheVariants as report_f
 use Rattle.capn_commands.specs.declared.flow_fault.FlowFault.TheVariants as flow_faults
 use Rattle.capn_make.specs.declared.fault.MakeFault.TheVariants as make_faults
 use Rattle.capn_args.specs.CommandLine.{program_line}
+use Rattle.capn_tool.specs.AnnotateRun.{MessagesAnnotated}
 use Rattle.capn_tool.specs.CmpEnd.{Finds, cmp_status, io}
 use Rattle.capn_tool.specs.Course.{Course}
 use Rattle.capn_tool.specs.ExitStatus.{archive_status, flow_status, make_status, pick_status, report_status}
@@ -79,6 +80,12 @@ abbrev pub EndsExplainRefused : List Text → Course → Course → Course → �
 EndsExplainRefused =
     EndsRunOrder (λ refused. invocations.Explain (explanations.Refused refused)) (report_faults.Ended run_faults.Io)
     ExplainedRefused WritesReportEnding report_status
+
+-- The words mean a run that annotates messages. The run was carried out, and its outcome decides what was written to
+-- `errors`, and the exit status.
+abbrev pub EndsAnnotate : List Text → Course → Course → Course → ℕ → Type 0
+EndsAnnotate =
+    EndsRunOrder (λ annotate. invocations.Annotate annotate) faults.Io MessagesAnnotated ReportsEnding status_of
 
 -- The words mean a run over an archive. The run was carried out, and its outcome decides what was written to `errors`,
 -- and the exit status.
@@ -141,6 +148,7 @@ Ends words input output errors status =
     ⊎ (EndsShow words input output errors status
     ⊎ (EndsExplain words input output errors status
     ⊎ (EndsExplainRefused words input output errors status
+    ⊎ (EndsAnnotate words input output errors status
     ⊎ (EndsArchive words input output errors status
     ⊎ (EndsUniq words input output errors status
     ⊎ (EndsFilter words input output errors status
@@ -148,4 +156,4 @@ Ends words input output errors status =
     ⊎ (EndsPick words input output errors status
     ⊎ (EndsOnly words input output errors status
     ⊎ (EndsFlow words input output errors status
-    ⊎ (EndsMake words input output errors status ⊎ Unordered words input output errors status)))))))))))
+    ⊎ (EndsMake words input output errors status ⊎ Unordered words input output errors status))))))))))))

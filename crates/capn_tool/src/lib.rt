@@ -12,6 +12,7 @@
 //! ```
 #![tactic(auto)]
 
+mod annotate_run;
 mod chosen_runs;
 mod cmp_end;
 pub mod laws;
@@ -23,6 +24,7 @@ mod program_run;
 mod run_end;
 mod unordered;
 
+pub use annotate_run::annotate_messages;
 pub use only_run::pick_only;
 pub use part_run::show_parts;
 pub use program_run::program;
@@ -37,6 +39,7 @@ pub use capn_args::{
 pub use capn_commands::{Command, MessageText, ToolFault, end, fault_text, run, status};
 
 // Types in the signatures of the functions that this crate exports.
+pub use capn_annotate::AnnotateOrder;
 pub use capn_archive::{
     ArchiveFault, ArchiveOrder, FilterOrder, Position, RunFault, Skipped, Task, UniqOrder,
 };

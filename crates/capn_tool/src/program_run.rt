@@ -5,6 +5,7 @@ ghost use Rattle.capn_words.specs.Watched.{inner_of, has_failed};
 ghost use Rattle.capn_tool.specs.Course.{course};
 ghost use Rattle.capn_tool.specs.Program.{Ends};
 
+use crate::annotate_run::annotate_messages;
 use crate::chosen_runs::{flow_through, make_by};
 use crate::cmp_end::finish_found;
 use crate::message_run::carry_out;
@@ -28,9 +29,10 @@ use std::io::{Read, Write};
 ///
 /// The words choose a run, which reads from `reader`, writes to `writer`, and ends with a flush. [`capn_commands::run`]
 /// carries out a command. [`show_parts`] shows messages or values in them. [`run_explain`] explains a message, and
-/// [`run_explain_refused`] each message that is refused. [`run_archive`], [`run_uniq`] and [`run_filter`] are runs over
-/// an archive. [`run_cmp`] compares messages. [`run_pick`] and [`pick_only`] pick messages. [`pack_stream`] packs, and
-/// [`unpack_stream`] unpacks. [`capn_make::make`] and [`capn_make::make_texts`] make messages from texts.
+/// [`run_explain_refused`] each message that is refused. [`annotate_messages`] says what each word of a message is.
+/// [`run_archive`], [`run_uniq`] and [`run_filter`] are runs over an archive. [`run_cmp`] compares messages.
+/// [`run_pick`] and [`pick_only`] pick messages. [`pack_stream`] packs, and [`unpack_stream`] unpacks.
+/// [`capn_make::make`] and [`capn_make::make_texts`] make messages from texts.
 ///
 /// If the run has no fault and the flush fails, the program ends as if the output had failed. After a fault a failed
 /// flush changes nothing. The status is 0 if the run has no fault and no message differs. The status is 1 if the input
@@ -76,6 +78,10 @@ pub fn program<'a, S: AsStr, R: Read, W: Write, E: Write>(
                     finish(explained, ReportFault::Ended(RunFault::Io), writer, errors)
                 }
             },
+            Invocation::Annotate(annotate) => {
+                let annotated = annotate_messages(alloc, annotate, reader, writer);
+                finish(annotated, ToolFault::Io, writer, errors)
+            }
             Invocation::Archive(archive) => {
                 let archived = run_archive(alloc, archive, reader, writer);
                 finish(archived, ArchiveFault::Io, writer, errors)

@@ -13,17 +13,20 @@ returns-in_default-clause-served c invocation means =
         | inl show ↦ c.in_default.not-show show
         | inr (inl check) ↦ c.in_default.not-check check
         | inr (inr (inl explain)) ↦ c.in_default.not-explain explain
-        | inr (inr (inr (inl list))) ↦ c.in_default.not-list list
-        | inr (inr (inr (inr (inl canonical)))) ↦ c.in_default.not-canonical canonical
-        | inr (inr (inr (inr (inr (inl hash))))) ↦ c.in_default.not-hash hash
-        | inr (inr (inr (inr (inr (inr (inl uniq)))))) ↦ c.in_default.not-uniq uniq
-        | inr (inr (inr (inr (inr (inr (inr (inl filter))))))) ↦ c.in_default.not-filter filter
-        | inr (inr (inr (inr (inr (inr (inr (inr (inl cmp)))))))) ↦ c.in_default.not-cmp cmp
-        | inr (inr (inr (inr (inr (inr (inr (inr (inr (inl pick))))))))) ↦ c.in_default.not-pick pick
-        | inr (inr (inr (inr (inr (inr (inr (inr (inr (inr (inl pack)))))))))) ↦ c.in_default.not-pack pack
-        | inr (inr (inr (inr (inr (inr (inr (inr (inr (inr (inr (inl unpack))))))))))) ↦ c.in_default.not-unpack unpack
-        | inr (inr (inr (inr (inr (inr (inr (inr (inr (inr (inr (inr (inl make)))))))))))) ↦ c.in_default.not-make make
-        | inr (inr (inr (inr (inr (inr (inr (inr (inr (inr (inr (inr (inr none)))))))))))) ↦ none
+        | inr (inr (inr (inl annotate))) ↦ c.in_default.not-annotate annotate
+        | inr (inr (inr (inr (inl list)))) ↦ c.in_default.not-list list
+        | inr (inr (inr (inr (inr (inl canonical))))) ↦ c.in_default.not-canonical canonical
+        | inr (inr (inr (inr (inr (inr (inl hash)))))) ↦ c.in_default.not-hash hash
+        | inr (inr (inr (inr (inr (inr (inr (inl uniq))))))) ↦ c.in_default.not-uniq uniq
+        | inr (inr (inr (inr (inr (inr (inr (inr (inl filter)))))))) ↦ c.in_default.not-filter filter
+        | inr (inr (inr (inr (inr (inr (inr (inr (inr (inl cmp))))))))) ↦ c.in_default.not-cmp cmp
+        | inr (inr (inr (inr (inr (inr (inr (inr (inr (inr (inl pick)))))))))) ↦ c.in_default.not-pick pick
+        | inr (inr (inr (inr (inr (inr (inr (inr (inr (inr (inr (inl pack))))))))))) ↦ c.in_default.not-pack pack
+        | inr (inr (inr (inr (inr (inr (inr (inr (inr (inr (inr (inr (inl unpack)))))))))))) ↦
+            c.in_default.not-unpack unpack
+        | inr (inr (inr (inr (inr (inr (inr (inr (inr (inr (inr (inr (inr (inl make))))))))))))) ↦
+            c.in_default.not-make make
+        | inr (inr (inr (inr (inr (inr (inr (inr (inr (inr (inr (inr (inr (inr none))))))))))))) ↦ none
       ])
       | inr (archive, task, options, called, is) ↦
           c.task_invocation.ensures.served archive called task options

@@ -14,6 +14,6 @@ returns-in-Make g c =
     let means =
     subst (λ (o : Invocation). MeansInvocation (subcommand_of program_line (map g.S.AsStr.text c.args.words.now)) o)
     c.in-Make.is c.in-Ok.ensures.means in
-    inr (inr (inr (inr (inr (inr (inr (inr (inr (inr (inr (inl
+    inr (inr (inr (inr (inr (inr (inr (inr (inr (inr (inr (inr (inl
     (ended (λ make. invocations.Make make) make_faults.Io (λ make. MadeBy make.quoted make.form) _ _ means
-    c.make_by-made.ensures c.finish-in-Make.ensures))))))))))))
+    c.make_by-made.ensures c.finish-in-Make.ensures)))))))))))))
