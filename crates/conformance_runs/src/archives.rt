@@ -9,8 +9,8 @@ use capn_explain::{ReportFault, run_explain, run_explain_refused};
 use capn_make::{MakeFault, make, make_texts};
 use capn_serve::{Ending, end, run_pick};
 use capn_tool::{
-    ArchiveFault, CmpFault, Comparison, Explanation, Flow, Invocation, RunFault, invocation_of,
-    pick_only, show_parts,
+    ArchiveFault, CmpFault, Comparison, Explanation, Flow, Invocation, RunFault, annotate_messages,
+    invocation_of, pick_only, show_parts,
 };
 use capn_words::Watched;
 use conformance_cases::{Heap, bytes_at, cut_short, digits_of, form_at, push_told};
@@ -116,6 +116,10 @@ pub(crate) fn archive_answer(alloc: Global, heap: &Heap, words: &[&str]) -> Resu
         Invocation::Explain(Explanation::Refused(refused)) => {
             let outcome = run_explain_refused(heap, refused, &mut reader, &mut writer);
             report_told(alloc, outcome, writer.into_inner().as_slice())
+        }
+        Invocation::Annotate(annotate) => {
+            let outcome = annotate_messages(heap, annotate, &mut reader, &mut writer);
+            tool_told(alloc, heap, outcome, writer.into_inner().as_slice())
         }
         Invocation::Archive(archive) => {
             let outcome = run_archive(heap, archive, &mut reader, &mut writer);

@@ -30,19 +30,22 @@ const WITH_FEWER: [&[&str]; 5] = [
     &["capn", "pick"],
 ];
 
-/// Runs that show messages, or parts of them.
-const SHOWING: [&[&str]; 3] = [
+/// Runs that show messages, or parts of them, or say what their words are.
+const SHOWING: [&[&str]; 5] = [
     &["capn", "show", "--at=0"],
     &["capn", "show", "--text"],
     &["capn", "show", "--json"],
+    &["capn", "annotate"],
+    &["capn", "annotate", "--summary"],
 ];
 
 /// Runs over the messages or the words of a packed stream.
-const OVER_PACKED: [&[&str]; 5] = [
+const OVER_PACKED: [&[&str]; 6] = [
     &["capn", "list", "--form=packed", "--keep-going"],
     &["capn", "filter", "--form=packed", "--keep-going"],
     &["capn", "pick", "--form=packed", "--from=2"],
     &["capn", "show", "--form=packed", "--at=0"],
+    &["capn", "annotate", "--form=packed"],
     &["capn", "unpack", "--streaming"],
 ];
 

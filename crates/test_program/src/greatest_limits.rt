@@ -26,12 +26,13 @@ fn a_list_of_many_numbers_is_taken(rt: HostRuntime) -> Result<(), Fail> {
 }
 
 /// Commands that read messages and take limits.
-const LIMITED: [&str; 8] = [
+const LIMITED: [&str; 9] = [
     "check",
     "show",
     "hash",
     "canonical",
     "explain",
+    "annotate",
     "limits",
     "uniq",
     "filter",

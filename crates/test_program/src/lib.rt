@@ -4,6 +4,8 @@
 #![tactic(auto)]
 
 #[cfg(test)]
+mod annotate_invocations;
+#[cfg(test)]
 mod archive_invocations;
 #[cfg(test)]
 mod broken;
