@@ -1,7 +1,7 @@
 #!/usr/bin/env python3
 """Computes the output and the exit status that the program must have for a command line. It calls the function
-`run_COMMAND` of the module `model` or `explained`, with the options of the command as arguments. It takes the options
-from the help texts, which also show the options that take a number.
+`run_COMMAND` of the module `model`, `explained` or `annotated`, with the options of the command as arguments. It takes
+the options from the help texts, which also show the options that take a number.
 
     tests/program/answered.py COMMAND [OPTION..] < INPUT
 
@@ -12,6 +12,7 @@ compares it with `show`.
 import re
 import sys
 
+import annotated
 import explained
 import help_texts
 import model
@@ -29,7 +30,7 @@ def options_of(command):
 def call_of(command):
     """Returns the Python function that computes the output of a command."""
     name = f"run_{command}"
-    return getattr(model, name) if hasattr(model, name) else getattr(explained, name)
+    return next(getattr(module, name) for module in (model, explained, annotated) if hasattr(module, name))
 
 
 def answer(line, data):
