@@ -9,7 +9,7 @@ _capn() {
     [[ ${COMP_WORDS[at - 1]} == = ]] && ((at--))
     local before=${COMP_WORDS[at - 1]}
     if ((COMP_CWORD == 1)); then
-        mapfile -t COMPREPLY < <(compgen -W 'show check explain list limits canonical hash uniq filter cmp pick pack unpack make help --help --version' -- "$word")
+        mapfile -t COMPREPLY < <(compgen -W 'show check explain annotate list limits canonical hash uniq filter cmp pick pack unpack make help --help --version' -- "$word")
         return
     fi
     case "$command $before" in
@@ -30,6 +30,11 @@ _capn() {
         'explain --depth') words='' ;;
         'explain --tariff') words='strict plain' ;;
         'explain --number') words='' ;;
+        'annotate --form') words='stream packed bare' ;;
+        'annotate --message-words') words='' ;;
+        'annotate --budget') words='' ;;
+        'annotate --depth') words='' ;;
+        'annotate --tariff') words='strict plain' ;;
         'list --form') words='stream packed bare' ;;
         'list --message-words') words='' ;;
         'list --budget') words='' ;;
@@ -75,6 +80,7 @@ _capn() {
         'show '*) words='--form --message-words --budget --depth --tariff --at --text --json --offsets --ways --one --help' ;;
         'check '*) words='--form --message-words --budget --depth --tariff --one --help' ;;
         'explain '*) words='--form --message-words --budget --depth --tariff --number --keep-going --help' ;;
+        'annotate '*) words='--form --message-words --budget --depth --tariff --summary --help' ;;
         'list '*) words='--form --message-words --budget --depth --tariff --keep-going --digest --help' ;;
         'limits '*) words='--form --message-words --budget --depth --tariff --keep-going --help' ;;
         'canonical '*) words='--form --message-words --budget --depth --tariff --framed --keep-going --help' ;;
@@ -86,7 +92,7 @@ _capn() {
         'pack '*) words='--streaming --help' ;;
         'unpack '*) words='--message-words --streaming --help' ;;
         'make '*) words='--form --text --help' ;;
-        'help '*) words='show check explain list limits canonical hash uniq filter cmp pick pack unpack make' ;;
+        'help '*) words='show check explain annotate list limits canonical hash uniq filter cmp pick pack unpack make' ;;
     esac
     mapfile -t COMPREPLY < <(compgen -W "$words" -- "$word")
 }

@@ -6,6 +6,7 @@ _capn() {
         'show:Writes the value of each message as text, and then the line `end`'
         'check:Writes `ok paid P visits V` for each message\: what reading it costs'
         'explain:Explains the first message that is rejected, down to the byte'
+        'annotate:Writes what each word of each message is, and how often it is read'
         'list:Writes a line for each message\: its place, size, cost and form'
         'limits:Writes which limits the messages need, and some to read them with'
         'canonical:Writes the canonical bytes of one message, or `--framed` of each'
@@ -61,6 +62,15 @@ _capn() {
                 '--tariff=[The counting rule of `--budget`]:tariff:(strict plain)' \
                 '--number=[The number of the message to explain, from 1]:number:()' \
                 '--keep-going[Explain every message that is rejected, and write an empty line after each]' \
+                '--help[Print help]' ;;
+        annotate)
+            _arguments \
+                '--form=[The form of the input]:form:(stream packed bare)' \
+                '--message-words=[The most words of a message, from 1 to 268435456]:message-words:()' \
+                '--budget=[The traversal limit]:budget:()' \
+                '--depth=[The nesting limit]:depth:()' \
+                '--tariff=[The counting rule of `--budget`]:tariff:(strict plain)' \
+                '--summary[Write one line for each message, with its number and its place, and the counts of its words]' \
                 '--help[Print help]' ;;
         list)
             _arguments \
