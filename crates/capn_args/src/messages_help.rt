@@ -139,7 +139,8 @@ belong together share a line. A line has seven columns with tabs between them:
   WAY     the path to what the first word belongs to, as `show --ways` writes it
   TEXT    what the words say. `cut` are words that canonical bytes leave out.
           `overlap` says that two objects that differ have the same words
-A text goes between quotes, as `show --text` writes it, but at most 32 bytes.
+Bytes from 0x20 to 0x7e, and a zero that ends their list, go between quotes, at
+most 32 of them.
 The last line of a message has the byte after the message, `end`, and counts of
 its words: of all, of each kind, of those that are read twice and more
 (`shared`), of those in overlaps, of those that are cut, and of its canonical
