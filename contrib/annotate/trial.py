@@ -156,7 +156,7 @@ class Elements(html.parser.HTMLParser):
 
 
 def is_sealed(name, page):
-    """Tests that a page loads nothing, and that its policy lets in its own style and script alone."""
+    """Tests that a page loads nothing, and that its policy allows only its own style and its own script."""
     want(f"{name}: one script and one style", len(page.scripts) == len(page.styles) == 1)
     want(f"{name}: nothing is loaded", not page.loads, page.loads[:3])
     known = "html head meta title style body h1 h2 p noscript main div aside section ul li b strong u s i a code " \
@@ -376,15 +376,15 @@ class Browser:
 AT = "document.querySelector('.at')?.id"
 TO = "[...document.querySelectorAll('.to')].map(it => it.id).join(' ')"
 SAYS = "document.getElementById('line').innerText"
-# Whether the marked word can be seen without scrolling.
+# True if the marked word can be seen without scrolling.
 SEEN = """
 (() => {
   const box = document.querySelector('.at').getBoundingClientRect();
   return box.height > 0 && box.top >= 0 && box.bottom <= innerHeight;
 })()
 """
-# The least contrast of the words of each kind and their colour: (L1 + 0.05) / (L2 + 0.05), by the rules for accessible
-# pages.
+# The lowest contrast between the text of a word and its background, over all kinds of words. By the rules for accessible
+# pages, the contrast is (L1 + 0.05) / (L2 + 0.05).
 CONTRAST = """
 (() => {
   const level = (text) => {
@@ -473,7 +473,7 @@ def browsed(program, made, folder):
                  browser.value("window.evil === undefined && document.scripts.length === 1"))
             want("texts of HTML: the panel shows the text", NASTY[0].decode()[:32] in browser.value(SAYS),
                  browser.value(SAYS))
-            # The policy keeps out what the page doesn't have.
+            # The policy blocks any script that isn't the page's own.
             browser.errors, errors = [], browser.errors
             browser.value("document.body.append(Object.assign(document.createElement('script'), "
                           "{textContent: 'window.evil = 1'}))")

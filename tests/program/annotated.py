@@ -36,9 +36,9 @@ Line = collections.namedtuple("Line", "offset place bytes times kind way text")
 
 
 class Cover:
-    """How the visits of an accepted message cover its words. Words are numbered from the first segment on. For each
-    word: `times` is how often it is covered, `parts` the part that covers it first, or None, `roles` what it is in this
-    part, and `overlaps` tells whether another part covers it too."""
+    """The cover of an accepted message: which visits cover which words. Words are numbered from the first segment on.
+    For each word, `times` has the number of times that it is covered, `parts` the part that covers it first, or None,
+    `roles` its role in this part, and `overlaps` whether another part covers it, too."""
 
     def __init__(self, segments):
         self.segments = [struct.unpack(f"<{len(one) // 8}Q", one) for one in segments]
@@ -46,7 +46,7 @@ class Cover:
         total = sum(map(len, self.segments))
         self.times, self.parts, self.roles = [0] * total, [None] * total, [None] * total
         self.overlaps, self.visits = [False] * total, 0
-        # The number of a visit for each word: to which visit the word belongs. The message itself is the visit 0.
+        # For each word, the number of the visit to which the word belongs. Number 0 is the message itself.
         self.belongs = [None] * total
         self.cover(MESSAGE, 0, 0, 0, 1, "slot")
         self.visit(0, 0, ())
@@ -133,7 +133,7 @@ class Cover:
 
     def place_in(self, part, segment, at):
         """Returns the struct in a list to which a word of the list belongs, and the index of the word among the words
-        and slots of the struct. A struct that is no list's is struct 0."""
+        and slots of the struct. A struct outside of a list counts as struct 0."""
         if part.shape[0] == "struct":
             return 0, at - part.begin
         size = sum(part.shape[3:])
@@ -166,7 +166,7 @@ class Notes:
         return model.number(self.raw, 8 * number, 8)
 
     def same(self, number):
-        """Returns what all words of a line have in common."""
+        """Returns the properties that all words of a line have in common."""
         return self.kind(number), self.cover.belongs[number], self.cover.times[number]
 
     def end(self, segment, at):

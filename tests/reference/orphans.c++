@@ -1,10 +1,11 @@
-// Writes messages with builders of the reference implementation, of which some have orphans. `orphans SEED COUNT`
-// writes the messages as a stream to standard output, which is the same in every run. For each message it writes a line
-// to standard error: how many orphans the message has, and how many of its words hold something of an orphan. To count
-// these words, it drops the orphans after it has written the message. The library then sets their words to zero.
+// Writes messages with builders of the reference implementation. Some messages have orphans. `orphans SEED COUNT`
+// writes a stream of messages to standard output. The stream is the same in every run. For each message, the program
+// writes a line to standard error: the number of the message's orphans, and the number of its words that an orphan uses.
+// To count these words, the program drops the orphans after it has written the message. The library then sets their
+// words to zero.
 //
-// The builders do all that moves objects or makes gaps. They drop objects, overwrite them, take them out and put them
-// back, truncate and extend lists, and make structs larger, as a newer schema does.
+// The builders make all changes that move objects or leave gaps. They drop objects, overwrite them, take them out and
+// put them back, truncate and extend lists, and make structs larger, as a newer schema does.
 #include <capnp/any.h>
 #include <capnp/message.h>
 #include <capnp/orphan.h>
