@@ -383,7 +383,7 @@ SEEN = """
   return box.height > 0 && box.top >= 0 && box.bottom <= innerHeight;
 })()
 """
-# The lowest contrast between the text of a word and its background, over all kinds of words. By the rules for accessible
+# The lowest contrast between the text of a word and its background, over all kinds of words. By rules for accessible
 # pages, the contrast is (L1 + 0.05) / (L2 + 0.05).
 CONTRAST = """
 (() => {
