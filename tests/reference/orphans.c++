@@ -1,8 +1,8 @@
 // Writes messages with builders of the reference implementation. Some messages have orphans. `orphans SEED COUNT`
 // writes a stream of messages to standard output. The stream is the same in every run. For each message, the program
-// writes a line to standard error: the number of the message's orphans, and the number of its words that an orphan uses.
-// To count these words, the program drops the orphans after it has written the message. The library then sets their
-// words to zero.
+// writes a line to standard error: the number of the orphans, and the number of words that an orphan uses. To count
+// these words, the program drops the orphans after it has written the message. The library then sets their words to
+// zero.
 //
 // The builders make all changes that move objects or leave gaps. They drop objects, overwrite them, take them out and
 // put them back, truncate and extend lists, and make structs larger, as a newer schema does.
