@@ -64,13 +64,6 @@ module _ (m : List (List ℕ)) (ws : List Covered) where
   followers-stop s w (suc n) h =
       stop-at s w n (begins m ws s w) refl (followers-stop s (suc w) n) h
 
-  -- a line is within its segment
-  pub line-within : (at : Place) → IsPlace m at
-      → at.word + (line_at m ws at).words ≤ length (segment_at m at.segment)
-  line-within at h =
-      let a = followers-few at.segment (at.word + 1) (length (segment_at m at.segment) - (at.word + 1)) in
-      omega arith
-
   -- the next line begins where a line ends
   pub line-next : (at : Place) → at.word + (line_at m ws at).words < length (segment_at m at.segment)
       → begins m ws at.segment (at.word + (line_at m ws at).words) ≡ true

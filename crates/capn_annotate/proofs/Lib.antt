@@ -1,0 +1,5 @@
+mod Added
+mod Climbs
+mod Loops
+mod Served
+mod AnnotatedRuns

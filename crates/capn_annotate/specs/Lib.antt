@@ -1,0 +1,11 @@
+pub mod inner
+pub mod Leads
+pub mod Ways
+pub mod Columns
+pub mod Quotations
+pub mod LineTexts
+pub mod MessageLines
+pub mod Table
+pub mod Summary
+pub mod Annotation
+pub mod AnnotateRun

@@ -1,0 +1,2 @@
+-- Definitions that are not used in the contract of any public function.
+pub mod Adding

@@ -1,0 +1,43 @@
+//! The service of `annotate`, which writes the lines of each message.
+
+ghost use Rattle.std.specs.Prelude.{◌≡◌, false};
+
+use crate::annotate_order::AnnotateOrder;
+use crate::annotation::add_annotation;
+use capn_cover::cover;
+use capn_serve::{Position, ServeFault, Service, fault_of_stop};
+use capn_words::{Space, Watched};
+use std::alloc::Allocator;
+use std::io::Write;
+
+impl Service for AnnotateOrder {
+    ghost use Rattle.capn_annotate.specs.Annotation as spec;
+    ghost use Rattle.capn_serve.specs.Fold.{never};
+
+    ghost serves = { spec.serves };
+
+    ghost refuses = { spec.refuses };
+
+    ghost done = { never };
+
+    #[inline(always)]
+    fn is_done(&self, _at: Position) -> bool {
+        false
+    }
+
+    fn serve<S: Space, W: Write, A: Allocator + Copy>(
+        &mut self,
+        alloc: A,
+        at: Position,
+        frame: &[u8],
+        message: &S,
+        text: &mut Vec<u8, A>,
+        writer: &mut Watched<W>,
+    ) -> Result<(), ServeFault> {
+        let _bounds = message.segments();
+        match cover(alloc, message, self.limits) {
+            Ok(words) => add_annotation(alloc, self, at, frame, message, &words, text, writer),
+            Err(stopped) => Err(fault_of_stop(stopped)),
+        }
+    }
+}
