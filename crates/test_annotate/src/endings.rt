@@ -12,9 +12,9 @@ use test_allocator::Refusing;
 
 /// The frame of a message of a number and a text, without the text's padding in the last line.
 const WHOLE: [u8; 40] = [
-    0x0, 0x0, 0x0, 0x0, 0x4, 0x0, 0x0, 0x0, 0x0, 0x0, 0x0, 0x0, 0x1, 0x0, 0x1, 0x0,
-    0x5, 0x0, 0x0, 0x0, 0x0, 0x0, 0x0, 0x0, 0x1, 0x0, 0x0, 0x0, 0x1a, 0x0, 0x0, 0x0,
-    0x61, 0x62, 0x0, 0x0, 0x0, 0x0, 0x0, 0x0,
+    0x0, 0x0, 0x0, 0x0, 0x4, 0x0, 0x0, 0x0, 0x0, 0x0, 0x0, 0x0, 0x1, 0x0, 0x1, 0x0, 0x5, 0x0, 0x0,
+    0x0, 0x0, 0x0, 0x0, 0x0, 0x1, 0x0, 0x0, 0x0, 0x1a, 0x0, 0x0, 0x0, 0x61, 0x62, 0x0, 0x0, 0x0,
+    0x0, 0x0, 0x0,
 ];
 
 /// The lines of `WHOLE`.
@@ -65,7 +65,13 @@ fn second_refused() -> Result<(), RunFault> {
 #[test]
 fn nothing_is_written_of_a_refused_message(rt: HostRuntime) -> Result<(), Fail> {
     let stream = joined(rt.alloc(), &WHOLE, &REFUSED)?;
-    let (ending, text) = annotated(rt.alloc(), rt.alloc(), Form::Stream, false, stream.as_slice());
+    let (ending, text) = annotated(
+        rt.alloc(),
+        rt.alloc(),
+        Form::Stream,
+        false,
+        stream.as_slice(),
+    );
     assert!(rt; ending == second_refused(), "{ending:?}");
     assert!(rt; text.as_slice() == WHOLE_LINES);
     Ok(())
@@ -83,7 +89,13 @@ fn no_input_has_no_lines(rt: HostRuntime) -> Result<(), Fail> {
 #[test]
 fn summaries_stand_alone(rt: HostRuntime) -> Result<(), Fail> {
     let stream = joined(rt.alloc(), &WHOLE, &WHOLE)?;
-    let (ending, text) = annotated(rt.alloc(), rt.alloc(), Form::Stream, true, stream.as_slice());
+    let (ending, text) = annotated(
+        rt.alloc(),
+        rt.alloc(),
+        Form::Stream,
+        true,
+        stream.as_slice(),
+    );
     assert!(rt; ending == Ok(()) && text.as_slice() == SUMMARIES);
     Ok(())
 }
@@ -94,8 +106,20 @@ fn packed_writes_what_the_stream_writes(rt: HostRuntime) -> Result<(), Fail> {
     let Ok(packed) = pack(rt.alloc(), stream.as_slice()) else {
         return Err(Fail::new("not packed"));
     };
-    let (ending, text) = annotated(rt.alloc(), rt.alloc(), Form::Stream, false, stream.as_slice());
-    let (other, lines) = annotated(rt.alloc(), rt.alloc(), Form::Packed, false, packed.as_slice());
+    let (ending, text) = annotated(
+        rt.alloc(),
+        rt.alloc(),
+        Form::Stream,
+        false,
+        stream.as_slice(),
+    );
+    let (other, lines) = annotated(
+        rt.alloc(),
+        rt.alloc(),
+        Form::Packed,
+        false,
+        packed.as_slice(),
+    );
     assert!(rt; ending == Ok(()) && other == Ok(()));
     assert!(rt; text.as_slice() == lines.as_slice());
     Ok(())

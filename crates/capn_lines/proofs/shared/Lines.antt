@@ -2,7 +2,7 @@
 -- on.
 use Rattle.std.proofs.Common.{◌≡◌, ℕ, zero, suc, ◌+◌, ◌-◌, ◌<◌, ◌≤◌, Bool, true, false, not, List, ◌∷◌}
 use Rattle.std.proofs.Common.{length, refl, ap, ap₂, ◌∙◌, subst, arith}
-use Rattle.capn_words.specs.Message.{segment_at, IsPlace}
+use Rattle.capn_words.specs.Message.{segment_at}
 use Rattle.capn_words.specs.declared.space.Place.{Place}
 use Rattle.capn_cover.specs.declared.covered.Covered.{Covered}
 use Rattle.capn_lines.specs.Lines.{are_alike, begins, followers, line_at, lines_from}
