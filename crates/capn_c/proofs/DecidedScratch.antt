@@ -2,27 +2,23 @@
 -- scratch, and each length of the buffer. (For `decision.rt`.)
 use Rattle.std.proofs.Common.{IsTrue, ◌≡◌, ◌⊎◌, ◌↔◌, ◌≤◌, true, false, ℕ, zero, suc, inl, inr, List, length, refl, ap}
 use Rattle.std.proofs.Common.{sym, ◌∙◌, arith}
-use Rattle.std.proofs.Common.{Result, Ok, Err, replicate, subst}
+use Rattle.std.proofs.Common.{Err, replicate, subst}
 use Rattle.capn_walk.specs.Limits.{Bounds}
 use Rattle.capn_canon.specs.Denotes.{Answers}
 use Rattle.capn_canon.specs.Refusal.{IsRefused}
 use Rattle.capn_canon.specs.declared.form.Form.{Form}
-use Rattle.capn_canon.specs.declared.length.CanonicalLength.{CanonicalLength}
 use Rattle.capn_canon.specs.declared.refusal.Refusal.{Refusal}
 use Rattle.capn_canon.specs.declared.refusal.Refusal.TheVariants as refusals
 use Rattle.capn_canon.proofs.shared.NotRefused.{not_refused}
 use Rattle.capn_canon.proofs.shared.OneRefusal.{one_refusal}
 use Rattle.capn_scratch.specs.Laws.{FormIsDecided}
-use Rattle.capn_scratch.specs.Needs.{HasScratch}
-use Rattle.capn_scratch.specs.declared.refusal.FormRefusal.{FormRefusal}
 use Rattle.capn_scratch.specs.declared.refusal.FormRefusal.TheVariants as lent
-use Rattle.capn_abi.specs.Calls.{Delivers}
 use Rattle.capn_abi.specs.StatusCodes.{Reports, answered, at_number, code, report_of}
 use Rattle.capn_abi.specs.declared.report.CapnReport.{CapnReport}
 use Rattle.capn_c.specs.Decision.{Agree}
 use Rattle.capn_c.specs.Lent.{LacksScratch, is_lent_status}
 use Rattle.capn_c.proofs.Decided.{IsTold, Wrong, agreed}
-use Rattle.capn_c.proofs.DecidedRoom.{IsRoom, delivers_room, one_answer, one_room, room_clauses}
+use Rattle.capn_c.proofs.DecidedRoom.{IsRoom, one_answer, one_room, room_clauses}
 
 -- `bs` have canonical bytes of the length in `r`, and `s` says whether a buffer of the length `n` has room for them.
 abbrev pub IsLentTold : Form → List ℕ → Bounds → ℕ → ℕ → CapnReport → Type 0
@@ -55,7 +51,7 @@ above_five (suc (suc (suc (suc zero)))) h = inl refl
 above_five (suc (suc (suc (suc (suc m))))) h = inr (omega arith)
 
 -- A status from 5 on is 9 or at least 10.
-above : (s : ℕ) → IsTrue (is_lent_status s) → 5 ≤ s → (s ≡ 9) ⊎ (10 ≤ s)
+pub above : (s : ℕ) → IsTrue (is_lent_status s) → 5 ≤ s → (s ≡ 9) ⊎ (10 ≤ s)
 above zero h k = absurd (omega (arith, k))
 above (suc zero) h k = absurd (omega (arith, k))
 above (suc (suc zero)) h k = absurd (omega (arith, k))

@@ -26,7 +26,8 @@ use Rattle.capn_abi.specs.Calls.{Delivers, IsWritten}
 use Rattle.capn_abi.specs.StatusCodes.{Reports, answered, at_number, code, is_status, report_of}
 use Rattle.capn_abi.specs.declared.report.CapnReport.{CapnReport}
 use Rattle.capn_c.specs.Lent.{LacksScratch, is_lent_status}
-use Rattle.capn_c.specs.inner.Lent.{IsLent, IsRefusalTold, IsResultTold}
+use Rattle.capn_c.specs.Agreement.{IsRefusalTold, IsResultTold}
+use Rattle.capn_c.specs.inner.Lent.{IsLent}
 use Rattle.capn_c.proofs.Delivered.{in_buffer}
 use Rattle.capn_c.proofs.Listed.{above, refused_listed}
 use Rattle.capn_c.proofs.OutOfMemory.{refused_memory}

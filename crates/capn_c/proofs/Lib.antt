@@ -1,3 +1,4 @@
+pub mod Agreed
 pub mod Comparisons
 pub mod Counted
 pub mod Decided

@@ -14,3 +14,4 @@ pub mod MadeBytes
 pub mod PathNumbers
 pub mod Departed
 pub mod inner
+pub mod Agreement

@@ -14,7 +14,8 @@ ghost use Rattle.capn_scratch.specs.Needs.{HasScratch};
 ghost use Rattle.capn_abi.specs.Calls.{IsForm, form_named, GiveLimits, IsTariff, bounds_of, Delivers};
 ghost use Rattle.capn_abi.specs.StatusCodes.{Reports, answered, at_number};
 ghost use Rattle.capn_c.specs.Lent.{LacksScratch, is_lent_status};
-ghost use Rattle.capn_c.specs.inner.Lent.{IsLent, IsRefusalTold, IsResultTold};
+ghost use Rattle.capn_c.specs.Agreement.{IsRefusalTold, IsResultTold};
+ghost use Rattle.capn_c.specs.inner.Lent.{IsLent};
 
 use capn_abi::{
     BAD_FORM, CapnLimits, CapnReport, DONE, NO_ROOM, answer_of, form_of, limits_of, refuse,
@@ -52,7 +53,7 @@ fn tell_refusal(refusal: FormRefusal, report: &mut CapnReport) -> u32
 }
 
 /// Writes the numbers of the result `written` to `report`, and returns the status of that result.
-fn tell(written: Result<CanonicalLength, FormRefusal>, report: &mut CapnReport) -> u32
+pub(crate) fn tell(written: Result<CanonicalLength, FormRefusal>, report: &mut CapnReport) -> u32
     ensures { IsResultTold written result report.new }
 {
     match written {

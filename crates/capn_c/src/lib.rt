@@ -12,6 +12,7 @@
 //! types say: the memory of the arguments exists, and no written memory overlaps another argument.
 #![tactic(auto)]
 
+pub mod agreement;
 mod canonical_call;
 mod canonical_fill;
 mod canonical_scratch_call;

@@ -1,5 +1,5 @@
 -- The results of the private functions of `capn_canonical_with_scratch`.
-use Rattle.std.specs.Prelude.{IsTrue, ◌≡◌, ◌≢◌, ◌⊎◌, ℕ, ◌+◌, ◌*◌, ◌≤◌, List, None, take, Result, MatchResult}
+use Rattle.std.specs.Prelude.{IsTrue, ◌≡◌, ◌≢◌, ◌⊎◌, ℕ, ◌+◌, ◌*◌, ◌≤◌, List, None, take}
 use Rattle.capn_value.specs.FirstCap.{first_cap}
 use Rattle.capn_value.specs.Tree.{Tree}
 use Rattle.capn_walk.specs.Accepted.{IsBounded}
@@ -9,33 +9,13 @@ use Rattle.capn_canon.specs.Denotes.{Answers, Denotes}
 use Rattle.capn_canon.specs.Layout.{canon}
 use Rattle.capn_canon.specs.Refusal.{IsRefused}
 use Rattle.capn_canon.specs.declared.form.Form.{Form}
-use Rattle.capn_canon.specs.declared.length.CanonicalLength.{CanonicalLength}
 use Rattle.capn_canon.specs.declared.refusal.Refusal.{Refusal}
-use Rattle.capn_canon.specs.declared.refusal.Refusal.TheVariants as refusals
 use Rattle.capn_scratch.specs.Laws.{most_scratch}
 use Rattle.capn_scratch.specs.Needs.{HasScratch}
-use Rattle.capn_scratch.specs.declared.refusal.FormRefusal.{FormRefusal}
-use Rattle.capn_scratch.specs.declared.refusal.FormRefusal.TheVariants as told
 use Rattle.capn_abi.specs.Calls.{Delivers}
 use Rattle.capn_abi.specs.StatusCodes.{Reports, answered, at_number}
 use Rattle.capn_abi.specs.declared.report.CapnReport.{CapnReport}
 use Rattle.capn_c.specs.Lent.{LacksScratch, is_lent_status}
-
--- `status` and `report` describe the given refusal.
-abbrev pub IsRefusalTold : FormRefusal → ℕ → CapnReport → Type 0
-IsRefusalTold (told.Bare e) status report = Reports status report (refusals.Bare e)
-IsRefusalTold (told.Packed e) status report = Reports status report (refusals.Packed e)
-IsRefusalTold (told.Frame e) status report = Reports status report (refusals.Frame e)
-IsRefusalTold (told.Trailing at) status report = Reports status report (refusals.Trailing at)
-IsRefusalTold (told.NoScratch n) status report = (status ≡ 9) × (report ≡ at_number n)
-IsRefusalTold (told.Walk s) status report = Reports status report (refusals.Walk s)
-IsRefusalTold (told.Capability k) status report = Reports status report (refusals.Capability k)
-IsRefusalTold (told.NoRoom n p) status report = (status ≡ 1) × (report ≡ answered n p 0)
-
--- `status` and `report` describe the result `r`.
-abbrev pub IsResultTold : Result CanonicalLength FormRefusal → ℕ → CapnReport → Type 0
-IsResultTold r status report = MatchResult r (λ c. (status ≡ 0) × (report ≡ answered c.length c.paid 0))
-    (λ e. IsRefusalTold e status report)
 
 -- The contract of `capn_canonical_with_scratch` holds, for one form and for limits that are in range.
 pub record IsLent (form : Form) (bs : List ℕ) (limits : Bounds) (scratch : ℕ) (old new : List ℕ) (status : ℕ)
