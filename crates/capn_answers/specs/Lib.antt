@@ -1,4 +1,6 @@
 pub mod Paths
 pub mod Walked
 pub mod Mismatches
+pub mod LineRecords
+pub mod Annotated
 pub mod inner

@@ -4,8 +4,10 @@
 //!   path to the slot at which the walk stopped.
 //! - [`mismatch_and_survey_in`] finds the first reason why an accepted message is not canonical, such as the first word
 //!   that differs from the canonical bytes. It also returns the survey of the message.
+//! - [`lines_in`] writes the lines of an accepted message as records of numbers: for words one after another that are
+//!   alike, what they are, how often they are read, and the pointer to whose object they belong.
 //!
-//! Both calls unpack or unframe the bytes at most once. Bytes that are no message are refused with the refusal of
+//! Each call unpacks or unframes the bytes at most once. Bytes that are no message are refused with the refusal of
 //! [`capn_canon::survey_bytes`].
 //!
 //! ```text
@@ -16,10 +18,14 @@
 //! ```
 #![tactic(auto)]
 
+mod line_input;
+mod line_record;
 mod mismatch_input;
 mod path_input;
 mod walked;
 
+pub use line_input::{Annotated, lines_in};
+pub use line_record::CapnLine;
 pub use mismatch_input::{SurveyedMismatch, mismatch_and_survey_in};
 pub use path_input::walk_in;
 pub use walked::Walked;
