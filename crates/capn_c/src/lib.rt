@@ -13,6 +13,7 @@
 #![tactic(auto)]
 
 pub mod agreement;
+mod annotate_call;
 mod canonical_call;
 mod canonical_fill;
 mod canonical_scratch_call;
@@ -51,6 +52,7 @@ mod unpack_some_call;
 mod written_message;
 
 pub use capn_abi::{CapnLimits, CapnReport};
+pub use capn_answers::CapnLine;
 pub use departed::CapnDeparted;
 pub use entries::CapnEntry;
 pub use figures::CapnFigures;
