@@ -7,10 +7,10 @@
  *   - Each pointer refers to as many bytes as its type and the size after it say. A pointer with size 0 may be null.
  *     `limits` may be null, which means the default limits. A report and a `which` that you do not want may be null. No
  *     other pointer may be null. (Code in C handles null limits, reports and `which`. It is tested, not proved.)
- *   - Message bytes and scratch may start at any address. Limits, figures, entries, the numbers of a path, `departed`,
- *     `which` and reports are aligned as their types require.
- *   - What a call writes (`out`, `scratch`, `digest`, `figures`, `entries`, `way`, `departed`, `which`, `report`)
- *     overlaps no other argument. Nothing else reads or writes it while the call runs.
+ *   - Message bytes and scratch may start at any address. Limits, figures, entries, lines, the numbers of a path,
+ *     `departed`, `which` and reports are aligned as their types require.
+ *   - What a call writes (`out`, `scratch`, `digest`, `figures`, `entries`, `lines`, `way`, `departed`, `which`,
+ *     `report`) overlaps no other argument. Nothing else reads or writes it while the call runs.
  *   - No call is made from a signal handler, nor in the child of a `fork` of a process with several threads.
  *   - malloc, realloc and free belong to one allocator. It aligns each block as C requires, up to 16 bytes.
  * Every number is tested: a call returns an error for a form, a limit, a tariff or a style that is out of range.
@@ -25,8 +25,8 @@
  *     for a single segment without a table, nor for a stream of at most 64 segments.
  *   - capn_hash_segments is the only call whose name ends in `_segments` that allocates.
  *   - Other calls allocate for a packed message, for the table of a stream of more segments, for the bytes that are
- *     hashed, packed or unpacked, for the output of capn_show, for a path, and for the canonical bytes that
- *     capn_departure compares.
+ *     hashed, packed or unpacked, for the output of capn_show, for a path, for the canonical bytes that capn_departure
+ *     compares, and for the lines of capn_annotate: 16 bytes for each word of the message, and 4 for each segment.
  *
  * A call needs at most 16 KiB of stack, and 304 bytes more for each level of depth that the limits allow. capn_show
  * needs 432 bytes a level, capn_index 560, and capn_same 576. With a depth of 256 that is 92 KiB, and 124 KiB for
@@ -82,7 +82,7 @@ typedef struct capn_report {
     uint64_t at;      /* the offset, count or index of an error: the status says which */
     uint32_t paid;    /* the cost in words of what was read; set with a result, and by the errors 64 to 74 */
     uint32_t visits;  /* pointers that were followed, null ones too; set by capn_check, capn_survey, capn_index,
-                         capn_show, capn_refusal_way and capn_departure, and by the errors 64 to 74 */
+                         capn_show, capn_refusal_way, capn_departure and capn_annotate, and by the errors 64 to 74 */
     uint32_t segment; /* the pointer that an error from 64 to 74 is about: its segment, */
     uint32_t word;    /* and its word in that segment */
 } capn_report;
@@ -166,11 +166,47 @@ typedef struct capn_departed {
     uint32_t zero;      /* always 0 */
 } capn_departed;
 
+/* What the words of a line are. */
+enum capn_line_kind {
+    CAPN_LINE_POINTER = 0,  /* a pointer that is not null, */
+    CAPN_LINE_NULL = 1,     /* null pointers, */
+    CAPN_LINE_PAD = 2,      /* a word of a landing pad, which a far pointer refers to, */
+    CAPN_LINE_TAG = 3,      /* the tag word of a list of structs, */
+    CAPN_LINE_DATA = 4,     /* data words of a struct, or of the elements of a list of structs, */
+    CAPN_LINE_LIST = 5,     /* elements of a list of bits, bytes, u16, u32 or u64, and the padding after them, */
+    CAPN_LINE_SLACK = 6,    /* words of a list of structs after its elements, */
+    CAPN_LINE_UNREACHED = 7 /* or words of no object or landing pad */
+};
+
+/* The flags of a line. */
+enum capn_line_flag {
+    CAPN_LINE_OVERLAP = 1, /* in these words, objects or landing pads overlap that are not the same */
+    CAPN_LINE_PADDING = 2  /* the line has the last word of a list, whose padding is not zero */
+};
+
+/* A line of a message: words one after another in one segment that are alike. Each word of a message is in exactly one
+ * line. A word belongs to the first object or landing pad that covers it, in the order in which pointers are
+ * followed. */
+typedef struct capn_line {
+    uint64_t offset;       /* of the first word, in `bytes`; for CAPN_PACKED, in the unpacked bytes */
+    uint32_t segment;      /* the place of the first word: its segment, */
+    uint32_t word;         /* and its number in that segment */
+    uint32_t words;        /* 1 or more */
+    uint32_t times;        /* how often objects and landing pads cover each of the words; CAPN_LINE_UNREACHED: 0 */
+    uint32_t slot_segment; /* the pointer to whose object or landing pad the words belong: its segment, */
+    uint32_t slot_word;    /* and its word in that segment; both are 0 for the root pointer and CAPN_LINE_UNREACHED */
+    uint32_t cut;          /* how many of the words canonical bytes leave out at the end of a struct */
+    uint32_t not_zero;     /* how many of the words are not zero */
+    uint32_t kind;         /* CAPN_LINE_POINTER to CAPN_LINE_UNREACHED */
+    uint32_t flags;        /* the sum of CAPN_LINE_OVERLAP and CAPN_LINE_PADDING, as far as they hold */
+} capn_line;
+
 /* The types have the sizes that the library gives them. Otherwise no compiler of C or C++ accepts this. */
 #define CAPN_SIZES_AGREE (sizeof(capn_limits) == 16 && sizeof(capn_report) == 32 && sizeof(capn_figures) == 32 \
                           && sizeof(capn_entry) == 24 && offsetof(capn_entry, kind) == 20 \
                           && sizeof(capn_segment) == 16 && offsetof(capn_segment, count) == 8 \
-                          && sizeof(capn_departed) == 40 && offsetof(capn_departed, zero) == 36)
+                          && sizeof(capn_departed) == 40 && offsetof(capn_departed, zero) == 36 \
+                          && sizeof(capn_line) == 48 && offsetof(capn_line, flags) == 44)
 #if defined(__cplusplus) && __cplusplus >= 201103L
 static_assert(CAPN_SIZES_AGREE, "as the library lays them out");
 #elif !defined(__cplusplus) && defined(__STDC_VERSION__) && __STDC_VERSION__ >= 201112L
@@ -353,6 +389,27 @@ capn_status capn_refusal_way(uint32_t form, const uint8_t *bytes, size_t size, c
  * reads a message several times. */
 capn_status capn_departure(uint32_t form, const uint8_t *bytes, size_t size, const capn_limits *limits,
                            capn_departed *departed, uint32_t *way, size_t most_numbers, capn_report *report);
+
+/* This header declares capn_annotate. */
+#define CAPN_HAS_ANNOTATE 1
+
+/* Checks one message as capn_check does, and writes a line for each stretch of its words that are alike, as `capn
+ * annotate` does: first those of segment 0, each at the word after the line before. The segment table has no line.
+ * CAPN_OK: the lines are at the start of `lines`, and the rest is unchanged.
+ * CAPN_NO_ROOM: there are more lines than `most_lines`, and `lines` is unchanged.
+ *
+ * With these two, `length` is 48 * the number of lines, and `paid` and `visits` are set. A message has at most as many
+ * lines as words. The lines are written only with CAPN_OK.
+ *
+ * A line is as long as it can be: its words are of one kind, belong to the same visit of a pointer, and are covered as
+ * often as one another. The kinds CAPN_LINE_POINTER, CAPN_LINE_PAD and CAPN_LINE_TAG have one word a line. No reader
+ * sees the words of the kinds CAPN_LINE_UNREACHED and CAPN_LINE_SLACK, nor the padding of a list.
+ *
+ * It accepts and rejects what capn_check does. It allocates for the table of a stream of more than 64 segments, for a
+ * packed message, and, for a valid message, 16 bytes for each word and 4 for each segment, also if there is no
+ * room. */
+capn_status capn_annotate(uint32_t form, const uint8_t *bytes, size_t size, const capn_limits *limits,
+                          capn_line *lines, size_t most_lines, capn_report *report);
 
 /* This header declares capn_same. */
 #define CAPN_HAS_SAME 1

@@ -638,6 +638,78 @@ inline expected<std::optional<departed>> try_departure(bytes message, form writt
     });
 }
 
+/* What the words of a line are. */
+enum class line_kind : std::uint32_t {
+    pointer = CAPN_LINE_POINTER,    /* a pointer that isn't null, */
+    null = CAPN_LINE_NULL,          /* null pointers, */
+    pad = CAPN_LINE_PAD,            /* a word of a landing pad, */
+    tag = CAPN_LINE_TAG,            /* the tag of a list of structs, */
+    data = CAPN_LINE_DATA,          /* data words of a struct, or of the elements of a list of structs, */
+    list = CAPN_LINE_LIST,          /* elements of a list of bits, bytes or numbers, and the padding after them, */
+    slack = CAPN_LINE_SLACK,        /* words of a list of structs after its elements, */
+    unreached = CAPN_LINE_UNREACHED /* or words of no object or landing pad */
+};
+
+/* The place of a word in a message: its segment, and its number in that segment. */
+struct place {
+    std::uint32_t segment;
+    std::uint32_t word;
+    friend constexpr bool operator==(place one, place other) noexcept {
+        return one.segment == other.segment && one.word == other.word;
+    }
+    friend constexpr bool operator!=(place one, place other) noexcept { return !(one == other); }
+};
+
+/* A line of a message: words one after another in one segment that are alike. */
+struct line {
+    std::uint64_t offset;      /* the byte of the first word in the message; of a packed one, in the unpacked bytes */
+    place first;               /* the place of the first word */
+    std::uint32_t words;       /* how many there are, 1 or more */
+    std::uint32_t times;       /* how often objects and landing pads cover each of them; 0 for `unreached` */
+    std::optional<place> slot; /* the pointer to whose object or landing pad they belong; nothing for the root pointer
+                                  and for `unreached` */
+    std::uint32_t cut;         /* how many of them canonical bytes leave out */
+    std::uint32_t not_zero;    /* how many of them aren't zero */
+    line_kind kind;
+    bool overlap; /* objects or landing pads overlap in them that aren't the same */
+    bool padding; /* the line has the last word of a list, whose padding isn't zero */
+};
+
+namespace detail {
+
+inline line line_of(const capn_line &from) noexcept {
+    const auto kind = static_cast<line_kind>(from.kind);
+    const place first{from.segment, from.word};
+    std::optional<place> slot;
+    if (kind != line_kind::unreached && first != place{0, 0}) slot = place{from.slot_segment, from.slot_word};
+    return {from.offset, first, from.words, from.times, slot, from.cut, from.not_zero, kind,
+            (from.flags & CAPN_LINE_OVERLAP) != 0, (from.flags & CAPN_LINE_PADDING) != 0};
+}
+
+} // namespace detail
+
+/* The lines of one message, as `capn annotate` has them: each word of each segment is in exactly one. */
+inline expected<std::vector<line>> try_annotate(bytes message, form written = form::stream,
+                                                const limits &most = {}) noexcept {
+    return detail::guarded([&]() -> expected<std::vector<line>> {
+        /* Mostly enough for a small message. Of a larger one the first call says how many lines there are. */
+        std::vector<capn_line, detail::unfilled<capn_line>> lines(256);
+        capn_report report;
+        for (;;) {
+            const capn_status status = capn_annotate(detail::number(written), message.u8(), message.size(), &most,
+                                                     lines.data(), lines.size(), &report);
+            if (status == CAPN_OK) break;
+            if (status != CAPN_NO_ROOM) return error(status, report);
+            lines.resize(static_cast<std::size_t>(report.length / sizeof(capn_line)));
+        }
+        lines.resize(static_cast<std::size_t>(report.length / sizeof(capn_line)));
+        std::vector<line> out;
+        out.reserve(lines.size());
+        for (const capn_line &one : lines) out.push_back(detail::line_of(one));
+        return out;
+    });
+}
+
 /* Whole words, packed. */
 inline expected<buffer> try_pack(bytes words) noexcept {
     expected<buffer> out =
@@ -753,6 +825,12 @@ inline expected<std::string> try_show(segments message, const limits &most = {},
     if (!whole) return whole.error();
     return try_show(*whole, form::stream, most, as);
 }
+/* It copies the segments first. Offsets count from the start of the stream of these segments. */
+inline expected<std::vector<line>> try_annotate(segments message, const limits &most = {}) noexcept {
+    const expected<buffer> whole = detail::joined(message, most);
+    if (!whole) return whole.error();
+    return try_annotate(*whole, form::stream, most);
+}
 
 #if CAPN_EXCEPTIONS
 /* Each of these is the call above that has `try_` before its name: it returns the value, or throws the error. */
@@ -799,6 +877,12 @@ inline std::optional<way> refusal_way(bytes message, form written = form::stream
 }
 inline std::optional<departed> departure(bytes message, form written = form::stream, const limits &most = {}) {
     return try_departure(message, written, most).value();
+}
+inline std::vector<line> annotate(bytes message, form written = form::stream, const limits &most = {}) {
+    return try_annotate(message, written, most).value();
+}
+inline std::vector<line> annotate(segments message, const limits &most = {}) {
+    return try_annotate(message, most).value();
 }
 inline buffer pack(bytes words) { return try_pack(words).value(); }
 inline buffer unpack(bytes packed, std::uint32_t most_words = 8388608 + 2049) {

@@ -76,6 +76,9 @@ inline expected<std::string> try_show(const kj_segments &message, const limits &
                                       style as = style::lines) noexcept {
     return try_show(segments(message), most, as);
 }
+inline expected<std::vector<line>> try_annotate(const kj_segments &message, const limits &most = {}) noexcept {
+    return try_annotate(segments(message), most);
+}
 #if CAPN_EXCEPTIONS
 inline buffer canonical(const kj_segments &message, const limits &most = {}) {
     return try_canonical(message, most).value();
@@ -95,6 +98,9 @@ inline bool same(const kj_segments &first, const kj_segments &second, const limi
 }
 inline std::string show(const kj_segments &message, const limits &most = {}, style as = style::lines) {
     return try_show(message, most, as).value();
+}
+inline std::vector<line> annotate(const kj_segments &message, const limits &most = {}) {
+    return try_annotate(message, most).value();
 }
 #endif
 

@@ -91,6 +91,10 @@ WITH_LIMITS(capn_departure,
             (uint32_t form, const uint8_t *bytes, size_t size, const capn_limits *limits, capn_departed *departed,
              uint32_t *way, size_t most_numbers, capn_report *report),
             (form, bytes, size, limits, departed, way, most_numbers, report))
+WITH_LIMITS(capn_annotate,
+            (uint32_t form, const uint8_t *bytes, size_t size, const capn_limits *limits, capn_line *lines,
+             size_t most_lines, capn_report *report),
+            (form, bytes, size, limits, lines, most_lines, report))
 
 /* Defines a call on two messages. Its argument `which` may be null, too. */
 HIDDEN capn_status proved_capn_same(uint32_t form, const uint8_t *a, size_t size_a, const uint8_t *b, size_t size_b,

@@ -88,16 +88,27 @@ package capn
 //     told.status = capn_index(form, bytes, size, &limits, entries, room, &told.report);
 //     return told;
 // }
+// static capn_told told_annotate(uint32_t form, const uint8_t *bytes, size_t size, capn_limits limits,
+//                                capn_line *lines, size_t most) {
+//     capn_told told;
+//     told.status = capn_annotate(form, bytes, size, &limits, lines, most, &told.report);
+//     return told;
+// }
 import "C"
 
 import "unsafe"
 
-// The entries that the library writes are those that Go reads: each of these lines fails to compile if they differ.
+// The entries and lines that the library writes are those that Go reads: each of these lines fails to compile if they
+// differ.
 const (
 	_ = uint(unsafe.Sizeof(entry{}) - unsafe.Sizeof(C.capn_entry{}))
 	_ = uint(unsafe.Sizeof(C.capn_entry{}) - unsafe.Sizeof(entry{}))
 	_ = uint(unsafe.Offsetof(entry{}.kind) - unsafe.Offsetof(C.capn_entry{}.kind))
 	_ = uint(unsafe.Offsetof(C.capn_entry{}.kind) - unsafe.Offsetof(entry{}.kind))
+	_ = uint(unsafe.Sizeof(line{}) - unsafe.Sizeof(C.capn_line{}))
+	_ = uint(unsafe.Sizeof(C.capn_line{}) - unsafe.Sizeof(line{}))
+	_ = uint(unsafe.Offsetof(line{}.flags) - unsafe.Offsetof(C.capn_line{}.flags))
+	_ = uint(unsafe.Offsetof(C.capn_line{}.flags) - unsafe.Offsetof(line{}.flags))
 )
 
 func start(bytes []byte) *C.uint8_t {
@@ -223,5 +234,14 @@ func callIndex(form Form, m []byte, l Limits, entries []entry) (uint32, report) 
 		first = (*C.capn_entry)(unsafe.Pointer(&entries[0]))
 	}
 	told := C.told_index(C.uint32_t(form), start(m), C.size_t(len(m)), laidOut(l), first, C.size_t(len(entries)))
+	return uint32(told.status), reported(told.report)
+}
+
+func callAnnotate(form Form, m []byte, l Limits, lines []line) (uint32, report) {
+	var first *C.capn_line
+	if len(lines) != 0 {
+		first = (*C.capn_line)(unsafe.Pointer(&lines[0]))
+	}
+	told := C.told_annotate(C.uint32_t(form), start(m), C.size_t(len(m)), laidOut(l), first, C.size_t(len(lines)))
 	return uint32(told.status), reported(told.report)
 }

@@ -142,6 +142,9 @@ func main() {
 	reads + `	fmt.Println(describe(message, nil))
 }
 `,
+	reads + `	fmt.Println(hidden(message, nil))
+}
+`,
 }
 
 // The block of the page that signs and verifies needs this head: a package and imports.
@@ -285,6 +288,9 @@ func TestPage(t *testing.T) {
 	is("why", "rejected: capn: Range at 0:0, paid 0, visits 1, pointer root\n", told(6, outside))
 	is("why", "rejected: capn: frame: Cut, pointer none\n", told(6, small[:20]))
 	is("why", "canonical: yes\n", told(6, canonical))
+	is("hidden", "[24] <nil>\n", told(7, stream(t, 1<<48, 5|50<<32, 0x616441, 0x6563617247)))
+	is("hidden", "[] <nil>\n", told(7, person))
+	is("hidden", "[] capn: frame: Cut\n", told(7, small[:20]))
 	if got := told(6, small); !strings.HasPrefix(got, "canonical: no: at byte 8: 0000000002000000 (struct of ") {
 		t.Error(got)
 	}

@@ -41,3 +41,5 @@ func callDeparture(Form, []byte, Limits, []uint32) (departed, uint32, report) {
 }
 
 func callIndex(Form, []byte, Limits, []entry) (uint32, report) { return unsupported, report{} }
+
+func callAnnotate(Form, []byte, Limits, []line) (uint32, report) { return unsupported, report{} }

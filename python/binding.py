@@ -53,6 +53,16 @@ DECLARED = """
         uint32_t kind, owner, word, count, numbers, zero;
     } capn_departed;
 
+    enum {
+        CAPN_LINE_POINTER, CAPN_LINE_NULL, CAPN_LINE_PAD, CAPN_LINE_TAG, CAPN_LINE_DATA, CAPN_LINE_LIST,
+        CAPN_LINE_SLACK, CAPN_LINE_UNREACHED, ...
+    };
+    enum { CAPN_LINE_OVERLAP, CAPN_LINE_PADDING, ... };
+    typedef struct {
+        uint64_t offset;
+        uint32_t segment, word, words, times, slot_segment, slot_word, cut, not_zero, kind, flags;
+    } capn_line;
+
     typedef uint32_t capn_status;
     enum {
         // c/statuses.txt: cffi
@@ -86,6 +96,8 @@ DECLARED = """
                                  uint32_t *way, size_t most_numbers, capn_report *report);
     capn_status capn_departure(uint32_t form, const uint8_t *bytes, size_t size, const capn_limits *limits,
                                capn_departed *departed, uint32_t *way, size_t most_numbers, capn_report *report);
+    capn_status capn_annotate(uint32_t form, const uint8_t *bytes, size_t size, const capn_limits *limits,
+                              capn_line *lines, size_t most_lines, capn_report *report);
     capn_status capn_same(uint32_t form, const uint8_t *a, size_t size_a, const uint8_t *b, size_t size_b,
                           const capn_limits *limits, uint32_t *which, capn_report *report);
     const char *capn_version(void);

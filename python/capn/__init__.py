@@ -17,7 +17,8 @@ the call returns. A change can make the library read outside the bytes, which en
   bytes.
 - `same` takes those of two messages.
 - `read` makes a `Message`, whose root is a `Value`.
-- `show` returns its text, and `departure` its first difference from the canonical form.
+- `show` returns its text, `departure` its first difference from the canonical form, and `annotate` what each of its
+  words is.
 - `messages`, `digests`, `amessages` and `Splitter` are for streams.
 - `check_segments`, `survey_segments`, `canonical_segments` and `digest_segments` take a message in segments."""
 from ._calls import (
@@ -38,6 +39,7 @@ from ._capn import ffi as _ffi
 from ._capn import lib as _lib
 from ._departure import Departure, departure
 from ._limits import Limits
+from ._lines import Line, LineKind, annotate
 from ._message import (
     Bits,
     Body,
@@ -78,6 +80,8 @@ __all__ = [
     "Departure",
     "Digests",
     "Limits",
+    "Line",
+    "LineKind",
     "List",
     "Message",
     "Messages",
@@ -98,6 +102,7 @@ __all__ = [
     "Voids",
     "__version__",
     "amessages",
+    "annotate",
     "canonical",
     "canonical_segments",
     "check",

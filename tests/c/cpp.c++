@@ -296,6 +296,66 @@ static void ways() {
     want("none of a refused one", thrown<capn::refusal>([] { capn::departure(cut); }) == "frame: Cut");
 }
 
+/* A line, with what the command prints of it in words. */
+static std::string told(const capn::line &line) {
+    static const char *const kinds[] = {"pointer", "null", "pad", "tag", "data", "list", "slack", "unreached"};
+    const auto of = [](capn::place at) { return std::to_string(at.segment) + ":" + std::to_string(at.word); };
+    std::string out = std::to_string(line.offset) + " " + of(line.first) + " " + std::to_string(line.words) + " "
+                      + std::to_string(line.times) + " " + kinds[static_cast<std::uint32_t>(line.kind)];
+    if (line.slot) out += " of " + of(*line.slot);
+    if (line.cut) out += " cut " + std::to_string(line.cut);
+    if (line.not_zero != line.words) out += " not zero " + std::to_string(line.not_zero);
+    return out + (line.overlap ? " overlap" : "") + (line.padding ? " padding" : "") + "\n";
+}
+static std::string told(const std::vector<capn::line> &lines) {
+    std::string out;
+    for (const capn::line &line : lines) out += told(line);
+    return out;
+}
+
+static void lines() {
+    using capn::form;
+    const std::string invoice = framed(words({1ull << 32 | 1ull << 48, 5, 1 | 26ull << 32, 0x6261}));
+    want("the lines of a text", told(capn::annotate(invoice)) == "8 0:0 1 1 pointer\n16 0:1 1 1 data of 0:0\n"
+                                                                 "24 0:2 1 1 pointer of 0:0\n"
+                                                                 "32 0:3 1 1 list of 0:2\n");
+    /* A text was set twice, and the first one was left where it was. */
+    const std::string twice = words({1ull << 48, 5 | 50ull << 32, 0x616441, 0x6563617247});
+    want("what nothing reaches", told(capn::annotate(twice, form::bare)) == "0 0:0 1 1 pointer\n"
+                                                                            "8 0:1 1 1 pointer of 0:0\n"
+                                                                            "16 0:2 1 0 unreached\n"
+                                                                            "24 0:3 1 1 list of 0:1\n");
+    const char packed[] = "\x11\x01\x01\x01\x06\x11\x02\x01\x50\x01\x03\x00\x00\x11\x09\x1a\x11\x05\x1a\x00"
+                          "\x00\x03\x68\x69";
+    want("a pad and what is cut", told(capn::annotate(capn::bytes(packed, sizeof packed - 1), form::packed))
+                                      == "16 0:0 1 1 pointer\n24 1:0 1 1 pad of 0:0\n"
+                                         "32 1:1 1 1 data of 0:0 cut 1 not zero 0\n40 1:2 1 1 pointer of 0:0\n"
+                                         "48 1:3 1 1 pointer of 0:0\n56 1:4 1 1 null of 0:0 cut 1 not zero 0\n"
+                                         "64 1:5 1 2 list of 1:2\n");
+    const std::string rows =
+        words({2ull << 48, 5 | 0x1full << 32, 9 | 0x14ull << 32, 8 | 1ull << 32, 7, 9, ~std::uint64_t{0}});
+    want("an overlap and slack", told(capn::annotate(rows, form::bare))
+                                     == "0 0:0 1 1 pointer\n8 0:1 1 1 pointer of 0:0\n16 0:2 1 1 pointer of 0:0\n"
+                                        "24 0:3 1 1 tag of 0:1\n32 0:4 1 1 data of 0:1\n"
+                                        "40 0:5 1 2 data of 0:1 overlap\n48 0:6 1 1 slack of 0:1\n");
+    const std::string padded = words({1 | 2ull << 32 | 17ull << 35, 1, 0, 9ull << 56});
+    want("padding", told(capn::annotate(padded, form::bare))
+                        == "0 0:0 1 1 pointer\n8 0:1 3 1 list of 0:0 not zero 2 padding\n");
+    /* Each word of this message has a line: more lines than there is room for at first. */
+    std::string wide = words({5000ull << 48});
+    for (int i = 0; i < 5000; i++) wide += words({0xfffffffc});
+    const auto many = capn::annotate(wide, form::bare);
+    want("many lines", many.size() == 5001 && many.back().offset == 40000 && many.back().first == capn::place{0, 5000});
+    const std::string halves[] = {words({2 | 1ull << 32}), words({1ull << 32, 5})};
+    const capn_segment segments[] = {{halves[0].data(), 1}, {halves[1].data(), 2}};
+    want("the lines of segments", told(capn::annotate(segments)) == "16 0:0 1 1 pointer\n24 1:0 1 1 pad of 0:0\n"
+                                                                    "32 1:1 1 1 data of 0:0\n");
+    want("no lines", thrown<capn::refusal>([] { capn::annotate(hostile); }) == "TooDeep at 0:0, paid 128, visits 65");
+    want("no lines of a cut one", thrown<capn::refusal>([] { capn::annotate(cut); }) == "frame: Cut");
+    want("no form", thrown<std::invalid_argument>([] { capn::annotate(one, static_cast<form>(3)); })
+                        == "the call doesn't take this form");
+}
+
 static void refusals() {
     want("a cut one", thrown<capn::refusal>([] { capn::check(cut); }) == "frame: Cut");
     want("none", thrown<capn::refusal>([] { capn::digest(std::string()); }) == "frame: Empty");
@@ -814,6 +874,7 @@ int main() {
     lent();
     comparisons();
     ways();
+    lines();
     refusals();
     containers();
     streams();

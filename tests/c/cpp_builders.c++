@@ -91,6 +91,9 @@ bool try_one() {
     want("what it pays", figures.paid == capn::check(message).paid && figures.paid == capn::check(reader).paid);
     const bool is_canonical = held.size() == 1 && equal(capn::bytes_of(held[0].asBytes()), wanted);
     want("which is canonical", figures.canonical == is_canonical);
+    std::uint32_t words = 0;
+    for (const capn::line &line : capn::annotate(message)) words += line.words;
+    want("the lines of a builder", words == figures.words);
     return held.size() > 1;
 }
 

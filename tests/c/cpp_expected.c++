@@ -68,6 +68,9 @@ static void values() {
     want("a difference", departed && *departed && (*departed)->byte == 8);
     want("none of a cut one", text(capn::try_departure(cut)) == "frame: Cut");
     want("no difference", capn::try_departure(tight) && !*capn::try_departure(tight));
+    const auto lines = capn::try_annotate(one);
+    want("lines", lines && lines->size() == 2 && lines->at(1).kind == capn::line_kind::data && lines->at(1).cut == 1);
+    want("no lines", text(capn::try_annotate(cut)) == "frame: Cut");
 }
 
 /* Tests each kind of error: an invalid message, limits out of range, a failed allocation, and a failed read. */

@@ -3,7 +3,8 @@
 // Each code block of the page is compiled alone and linked with this program. The first argument of the program says
 // which block runs. The block reads standard input.
 //
-//     cpp_page check | field | explain | reason | canonical | valid | each | packed | signed DIGEST | compare FILE
+//     cpp_page check | field | explain | reason | canonical | valid | each | packed | hidden |
+//     signed DIGEST | compare FILE
 #include <capn.hpp>
 #include <cstdio>
 #include <fstream>
@@ -26,6 +27,7 @@ bool check_each(int file, const capn::limits &limits);
 std::uint64_t count_packed(std::istream &in, const capn::limits &limits);
 void print_person(capn::bytes message, const capn::limits &limits);
 std::string describe(capn::bytes message, const capn::limits &limits);
+std::vector<std::uint64_t> hidden(capn::bytes message, const capn::limits &limits);
 #ifdef WITH_KJ
 capn::digest_bytes digest_of(capnp::MessageBuilder &message);
 
@@ -56,6 +58,10 @@ int main(int count, char **words) try {
     if (word == "check") return !is_within_limits(message);
     if (word == "field") return print_person(message, limits), 0;
     if (word == "explain") return std::cout << describe(message, limits) << "\n", 0;
+    if (word == "hidden") {
+        for (const std::uint64_t offset : hidden(message, limits)) std::cout << offset << "\n";
+        return 0;
+    }
     if (word == "reason") return std::cout << reason_to_reject(message, limits) << "\n", 0;
     if (word == "compare" && count > 2) {
         std::ifstream file(words[2], std::ios::binary);

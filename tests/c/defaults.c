@@ -4,7 +4,7 @@
 #define TEST "defaults"
 #include "wanted.h"
 
-enum { ROOM = 1 << 12, ENTRIES = 64, WAY = 128 };
+enum { ROOM = 1 << 12, ENTRIES = 64, WAY = 128, LINES = 64 };
 
 /* The arguments of a call, and what the call writes. */
 struct given {
@@ -20,6 +20,7 @@ struct given {
         char text[ROOM];
         capn_entry entries[ENTRIES];
         capn_figures figures;
+        capn_line lines[LINES];
         uint32_t way[WAY];
         struct {
             capn_departed departed;
@@ -44,6 +45,7 @@ CALL(index, INPUT, g->out.entries, ENTRIES, g->report)
 CALL(show, INPUT, CAPN_STYLE_TEXT, g->out.text, ROOM, g->report)
 CALL(refusal_way, INPUT, g->out.way, WAY, g->report)
 CALL(departure, INPUT, &g->out.departs.departed, g->out.departs.way, WAY, g->report)
+CALL(annotate, INPUT, g->out.lines, LINES, g->report)
 
 /* One function compares a message with its first half. The other function compares the message with itself. */
 static capn_status try_same(struct given *g) {
@@ -73,7 +75,7 @@ static const struct {
 #define ONE(name, of_forms) {#name, try_##name, of_forms}
     ONE(canonical, 1), ONE(canonical_with_scratch, 1), ONE(is_canonical, 0), ONE(hash, 1), ONE(check, 1), ONE(pack, 0),
     ONE(unpack, 0), ONE(first, 0), ONE(unpack_some, 0), ONE(survey, 1), ONE(index, 1), ONE(show, 1),
-    ONE(refusal_way, 1), ONE(departure, 1), ONE(same, 1), ONE(same_as_itself, 1),
+    ONE(refusal_way, 1), ONE(departure, 1), ONE(annotate, 1), ONE(same, 1), ONE(same_as_itself, 1),
     ONE(canonical_segments, 1), ONE(hash_segments, 1), ONE(check_segments, 1), ONE(survey_segments, 1)
 };
 enum { CALLS = sizeof calls / sizeof *calls };

@@ -136,11 +136,56 @@ static void led(uint32_t form, const uint8_t *bytes, size_t size, capn_status ch
     need(!memcmp(&report, checked, sizeof report), "its report", bytes, size);
 }
 
+/* capn_annotate must report the same as capn_check. Each word of a message must be in exactly one of its lines, in
+ * order. The words that aren't zero must be those that the lines count. */
+static void lined(uint32_t form, const uint8_t *bytes, size_t size, capn_status check, const capn_report *checked) {
+    capn_report report;
+    const capn_status status = capn_annotate(form, bytes, size, &limits, NULL, 0, &report);
+    need(status == (check == CAPN_OK ? CAPN_NO_ROOM : check), "lines as check", bytes, size);
+    const size_t count = report.length / sizeof(capn_line);
+    report.length = 0;
+    need(!memcmp(&report, checked, sizeof report), "its report", bytes, size);
+    if (check != CAPN_OK) return;
+    /* This block has exactly the size of the lines, so that a sanitizer detects an access past the end. */
+    capn_line *all = malloc(count * sizeof *all);
+    need(capn_annotate(form, bytes, size, &limits, all, count - 1, &report) == CAPN_NO_ROOM, "room", bytes, size);
+    need(capn_annotate(form, bytes, size, &limits, all, count, &report) == CAPN_OK, "lines", bytes, size);
+    need(report.length == count * sizeof *all && report.visits == checked->visits, "their number", bytes, size);
+    capn_figures figures;
+    need(capn_survey(form, bytes, size, &limits, &figures, &report) == CAPN_OK, "a survey", bytes, size);
+    const uint64_t table = form == CAPN_BARE ? 0 : 8 * (figures.segments / 2 + 1);
+    uint64_t words = 0;
+    uint32_t segment = 0, word = 0;
+    for (size_t i = 0; i < count; i++) {
+        const capn_line *line = &all[i];
+        need(line->offset == table + 8 * words && line->words >= 1, "one after another", bytes, size);
+        need(line->segment == segment ? line->word == word : line->segment > segment && line->word == 0, "its place",
+             bytes, size);
+        need(line->cut <= line->words && line->not_zero <= line->words, "its counts", bytes, size);
+        need(line->kind <= CAPN_LINE_UNREACHED && line->flags <= 3, "its kind", bytes, size);
+        need((line->times == 0) == (line->kind == CAPN_LINE_UNREACHED), "its times", bytes, size);
+        uint32_t not_zero = 0;
+        for (uint32_t at = 0; at < line->words && form != CAPN_PACKED; at++) {
+            uint64_t here;
+            need(line->offset + 8 * at + 8 <= size, "within the bytes", bytes, size);
+            memcpy(&here, bytes + line->offset + 8 * at, 8);
+            not_zero += here != 0;
+        }
+        need(form == CAPN_PACKED || line->not_zero == not_zero, "what isn't zero", bytes, size);
+        segment = line->segment;
+        word = line->word + line->words;
+        words += line->words;
+    }
+    need(words == figures.words, "all words", bytes, size);
+    free(all);
+}
+
 static void message(uint32_t form, const uint8_t *bytes, size_t size) {
     capn_report checked, report;
     uint8_t digest[32];
     capn_status check = capn_check(form, bytes, size, &limits, &checked);
     led(form, bytes, size, check, &checked);
+    lined(form, bytes, size, check, &checked);
     capn_status status = capn_canonical(form, bytes, size, &limits, NULL, 0, &report);
     if (form != CAPN_PACKED) indexed(form, bytes, size, check, &checked);
     else {

@@ -8,7 +8,7 @@
 #include <signal.h>
 #include <unistd.h>
 
-enum { ROOM = ALL_PAGES, LONGEST = PAGE * 8, FILL = 0x5a, LINE = 1 << 20, STORED = 4096, CALLS = 14 };
+enum { ROOM = ALL_PAGES, LONGEST = PAGE * 8, FILL = 0x5a, LINE = 1 << 20, STORED = 4096, CALLS = 15 };
 
 static unsigned long calls, inputs;
 static const char *doing = "nothing";
@@ -331,6 +331,16 @@ static size_t call(uint32_t which, const uint8_t *bytes, size_t size, size_t eno
         need(status != CAPN_NO_SCRATCH || r->at > lent, "the words that are needed");
         need(status != CAPN_NO_ROOM || r->length > room, "no room");
         kept(out, status ? 0 : r->length, room);
+        return status == CAPN_OK || status == CAPN_NO_ROOM ? r->length : 0;
+    }
+    case 13: {
+        doing = "capn_annotate";
+        const size_t most = room / 48;
+        out = filled(of_out, 48 * most);
+        status = capn_annotate(form, bytes, size, limits, (capn_line *)(void *)out, most, r);
+        need(status != CAPN_OK || (r->length % 48 == 0 && r->length <= 48 * most), "the number of lines");
+        need(status != CAPN_NO_ROOM || r->length > 48 * most, "there is no room for the lines");
+        kept(out, status ? 0 : r->length, 48 * most);
         return status == CAPN_OK || status == CAPN_NO_ROOM ? r->length : 0;
     }
     default: {

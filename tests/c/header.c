@@ -33,6 +33,10 @@ int main(void) {
     if (capn_refusal_way(CAPN_BARE, null, 8, &limits, way, 2, &report) != CAPN_RANGE || report.length != 0) return 22;
     if (capn_departure(CAPN_STREAM, null, 16, &limits, &departed, way, 2, &report) != CAPN_OK) return 23;
     if (departed.kind != CAPN_DEPARTS_NOT || departed.owner != CAPN_OWNER_NONE) return 24;
+    capn_line line;
+    if (CAPN_HAS_ANNOTATE != 1) return 29;
+    if (capn_annotate(CAPN_STREAM, null, 16, &limits, &line, 1, &report) != CAPN_OK || report.length != 48) return 30;
+    if (line.offset != 8 || line.words != 1 || line.kind != CAPN_LINE_NULL || line.flags) return 31;
     uint32_t which = 2;
     if (CAPN_HAS_SAME != 1) return 25;
     if (capn_same(CAPN_BARE, out, 8, null + 8, 8, &limits, &which, &report) != CAPN_OK || which) return 26;

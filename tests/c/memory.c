@@ -93,6 +93,9 @@ static capn_status departed(const input *in, capn_report *report) {
     uint32_t *way = (uint32_t *)(void *)(out + sizeof(capn_departed));
     return capn_departure(in->form, in->bytes, in->size, &in->limits, told, way, ROOM / 8, report);
 }
+static capn_status lined(const input *in, capn_report *report) {
+    return capn_annotate(in->form, in->bytes, in->size, &in->limits, (capn_line *)(void *)out, ROOM / 48, report);
+}
 static capn_status counted(const input *in, capn_report *report) {
     return capn_index(in->form, in->bytes, in->size, &in->limits, NULL, 0, report);
 }
@@ -178,6 +181,9 @@ static void in_turn(void) {
     each("departure, bare", departed, &bare, 1);
     each("departure, 65 segments", departed, &more, 1);
     each("departure, packed", departed, &pack, 3);
+    each("annotate, bare", lined, &bare, 1);
+    each("annotate, 65 segments", lined, &more, 2);
+    each("annotate, packed", lined, &pack, 2);
 }
 
 /* Tests messages of any depth. A message without a segment table, or with at most 64 segments, needs no memory. A

@@ -13,7 +13,7 @@
 #include <string.h>
 
 enum { ROOM = 1 << 20 };
-enum { MOST_SEGMENTS = 66, CALLS = 30, KINDS = 4 };
+enum { MOST_SEGMENTS = 66, CALLS = 32, KINDS = 4 };
 /* The calls that have their own bound on the stack for each level of depth. `levels` has these bounds in bytes. */
 static const char *const names[KINDS] = {"", "capn_show ", "capn_index ", "capn_same "};
 static size_t base, levels[KINDS];
@@ -89,6 +89,12 @@ static void *run(void *status) {
     case 28:
         *told = capn_canonical_with_scratch(CAPN_PACKED, text, packed_size, &limits, scratch, ROOM / 8, out, ROOM,
                                             &report);
+        break;
+    case 29:
+        *told = capn_annotate(CAPN_STREAM, framed, framed_size, &limits, (capn_line *)out, ROOM / 48, &report);
+        break;
+    case 30:
+        *told = capn_annotate(CAPN_PACKED, text, packed_size, &limits, (capn_line *)out, ROOM / 48, &report);
         break;
     default: *told = capn_unpack(text, packed_size, 1u << 20, out, ROOM, &report); break;
     }

@@ -37,6 +37,7 @@ static capn_report each_call(const char *what, uint32_t form, const void *bytes,
     want("the report of a survey", memcmp(&report, &checked, sizeof report) != 0, 0);
     if (form != CAPN_PACKED) is(what, capn_index(form, bytes, size, limits, NULL, 0, &report), unread);
     is(what, capn_show(form, bytes, size, limits, CAPN_STYLE_LINES, NULL, 0, &report), unread);
+    is(what, capn_annotate(form, bytes, size, limits, NULL, 0, &report), unread);
     uint32_t way[8];
     capn_departed departed;
     is(what, capn_departure(form, bytes, size, limits, &departed, way, 8, &report), told);
@@ -203,6 +204,8 @@ static void without_memory(void) {
     is("no table", capn_first(many, 272, &usual, &report), CAPN_MEMORY);
     capn_entry entry;
     is("entries", capn_index(CAPN_BARE, two + 8, 8, &usual, &entry, 1, &report), CAPN_OK);
+    capn_line line;
+    is("no cover", capn_annotate(CAPN_BARE, two + 8, 8, &usual, &line, 1, &report), CAPN_MEMORY);
     is("no starts", capn_index(CAPN_STREAM, many, 272, &usual, &entry, 1, &report), CAPN_MEMORY);
     left = -1;
 }

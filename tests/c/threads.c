@@ -9,7 +9,7 @@
 #define THREADS 4
 #define ROUNDS 100
 #endif
-enum { DEPTH = 200, WORDS = 2 * DEPTH, ROOM = 16 * WORDS, CALLS = 18 };
+enum { DEPTH = 200, WORDS = 2 * DEPTH, ROOM = 16 * WORDS, CALLS = 19 };
 static capn_limits limits;
 /* The message is a chain of structs in two segments. Each struct has two pointers, and its first pointer refers to the
  * next struct. `packed` is the same message, packed. */
@@ -24,6 +24,7 @@ typedef struct answers {
     uint8_t lent[ROOM], scratch[sizeof stream];
     capn_figures figures;
     capn_entry entries[WORDS + 1];
+    capn_line lines[WORDS];
     capn_departed departed;
     uint32_t way[2][WORDS], which[2];
 } answers;
@@ -55,6 +56,7 @@ static void make(answers *a) {
     a->status[16] = capn_same(CAPN_BARE, bare, sizeof stream - 16, bare, 8, &limits, &a->which[1], &r[16]);
     a->status[17] = capn_canonical_with_scratch(CAPN_PACKED, packed, packed_size, &limits, a->scratch, WORDS + 2,
                                                 a->lent, ROOM, &r[17]);
+    a->status[18] = capn_annotate(CAPN_PACKED, packed, packed_size, &limits, a->lines, WORDS, &r[18]);
 }
 
 static void *run(void *number) {

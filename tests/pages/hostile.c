@@ -24,6 +24,7 @@ int print_person(const uint8_t *, size_t, const capn_limits *);
 int print_lists(const uint8_t *, const capn_record *);
 void print_error(const uint8_t *, size_t, const capn_limits *);
 capn_status print_first_difference(const uint8_t *, size_t, const capn_limits *);
+capn_status print_hidden(const uint8_t *, size_t, const capn_limits *);
 
 static const char *doing;
 
@@ -77,6 +78,8 @@ static void call_all(const uint8_t *given, size_t size, const capn_limits *limit
     print_error(bytes, size, limits);
     const capn_status told = print_first_difference(bytes, size, limits);
     if (status == CAPN_OK && told != CAPN_OK) fail("no difference is told");
+    const capn_status hidden = print_hidden(bytes, size, limits);
+    if (hidden != told) fail("another status of what is hidden");
     lists_of(bytes, size, limits);
     free(bytes);
 }
@@ -179,6 +182,7 @@ int main(int count, char **words) {
     else if (!strcmp(doing, "print_error")) print_error(bytes, size, &limits);
     else if (!strcmp(doing, "print_first_difference"))
         status = print_first_difference(bytes, size, &limits) != CAPN_OK;
+    else if (!strcmp(doing, "print_hidden")) status = print_hidden(bytes, size, &limits) != CAPN_OK;
     else fail("no such call");
     free(bytes);
     return status;

@@ -72,7 +72,7 @@ class Page(unittest.TestCase):
     def test_all_programs_are_tried(self):
         tried = "print(capn.digest(message).hex())", "def has_digest", "def is_within_limits", "print(capn.survey", \
             "capn.messages(file, limits=LIMITS, keep_going", "capn.digests(file, limits=LIMITS, keep_going", \
-            "def receive", "root.uint(64, 0, default=7)", "def describe"
+            "def receive", "root.uint(64, 0, default=7)", "def describe", "def hidden"
         self.assertEqual(sorted(map(program, tried)), sorted(blocks(PAGE, "python")))
 
     def test_digest(self):
@@ -147,6 +147,15 @@ class Page(unittest.TestCase):
         ):
             asked = f"print(describe({message!r}))"
             self.assertEqual(self.run_on(b"", program("def describe"), asked), (0, f"{expected}\n"))
+
+    def test_hidden(self):
+        # A writer set a text twice, and left the first one where it was. In another message, the last byte of a word
+        # comes after the elements of a list.
+        twice = "0000000004000000" "0000000000000100" "0500000032000000" "4164610000000000" "4772616365000000"
+        padded = "0000000002000000" "0100000022000000" "6162630000000009"
+        for message, offsets in (bytes.fromhex(twice), [24]), (bytes.fromhex(padded), [16]), (MESSAGE, []):
+            self.assertEqual(self.run_on(b"", program("def hidden"), f"print(hidden({message!r}))"),
+                             (0, f"{offsets}\n"))
 
     def test_stream(self):
         stream = program("print(capn.survey")

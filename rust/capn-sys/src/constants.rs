@@ -103,6 +103,32 @@ pub const CAPN_OWNER_TAG: capn_owner = 2;
 /// The last word of the list of bits, bytes or numbers that this pointer refers to.
 pub const CAPN_OWNER_LAST_WORD: capn_owner = 3;
 
+/// What the words of a line are: the `kind` of a [`capn_line`](crate::capn_line).
+pub type capn_line_kind = u32;
+/// A pointer that isn't null.
+pub const CAPN_LINE_POINTER: capn_line_kind = 0;
+/// Null pointers.
+pub const CAPN_LINE_NULL: capn_line_kind = 1;
+/// A word of a landing pad.
+pub const CAPN_LINE_PAD: capn_line_kind = 2;
+/// The tag word of a list of structs.
+pub const CAPN_LINE_TAG: capn_line_kind = 3;
+/// Data words of a struct, or of the elements of a list of structs.
+pub const CAPN_LINE_DATA: capn_line_kind = 4;
+/// Elements of a list of bits, bytes or numbers, and the padding after them.
+pub const CAPN_LINE_LIST: capn_line_kind = 5;
+/// Words of a list of structs after its elements.
+pub const CAPN_LINE_SLACK: capn_line_kind = 6;
+/// Words of no object or landing pad.
+pub const CAPN_LINE_UNREACHED: capn_line_kind = 7;
+
+/// The bits of the `flags` of a [`capn_line`](crate::capn_line).
+pub type capn_line_flag = u32;
+/// Objects or landing pads overlap in the words that aren't the same.
+pub const CAPN_LINE_OVERLAP: capn_line_flag = 1;
+/// The line has the last word of a list, whose padding isn't zero.
+pub const CAPN_LINE_PADDING: capn_line_flag = 2;
+
 /// What a call returns. Numbers from 16 to 127 say why an input is rejected.
 pub type capn_status = u32;
 pub const CAPN_OK: capn_status = 0;

@@ -76,6 +76,23 @@ pub struct capn_departed {
     pub zero: u32,
 }
 
+/// A line of a message: words one after another in one segment that are alike.
+#[repr(C)]
+#[derive(Clone, Copy, Debug, Default, PartialEq, Eq)]
+pub struct capn_line {
+    pub offset: u64,
+    pub segment: u32,
+    pub word: u32,
+    pub words: u32,
+    pub times: u32,
+    pub slot_segment: u32,
+    pub slot_word: u32,
+    pub cut: u32,
+    pub not_zero: u32,
+    pub kind: u32,
+    pub flags: u32,
+}
+
 /// A segment of a message: `count` words of 8 bytes, at any address.
 #[repr(C)]
 #[derive(Clone, Copy, Debug)]
@@ -92,6 +109,7 @@ const _: () = assert!(
         && core::mem::size_of::<capn_entry>() == 24
         && core::mem::size_of::<capn_segment>() == 16
         && core::mem::size_of::<capn_departed>() == 40
+        && core::mem::size_of::<capn_line>() == 48
 );
 
 extern "C" {
@@ -210,6 +228,15 @@ extern "C" {
         departed: *mut capn_departed,
         way: *mut u32,
         most_numbers: usize,
+        report: *mut capn_report,
+    ) -> capn_status;
+    pub fn capn_annotate(
+        form: u32,
+        bytes: *const u8,
+        size: usize,
+        limits: *const capn_limits,
+        lines: *mut capn_line,
+        most_lines: usize,
         report: *mut capn_report,
     ) -> capn_status;
     pub fn capn_same(

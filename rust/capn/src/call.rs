@@ -7,8 +7,9 @@ use alloc::vec::Vec;
 use core::mem::MaybeUninit;
 
 use capn_sys::{
-    capn_departed, capn_entry, capn_figures, capn_limits, capn_report, capn_segment, capn_status,
-    CAPN_DIFFERENT, CAPN_NOT_CANONICAL, CAPN_NO_ROOM as NO_ROOM, CAPN_NO_SCRATCH, CAPN_OK as OK,
+    capn_departed, capn_entry, capn_figures, capn_limits, capn_line, capn_report, capn_segment,
+    capn_status, CAPN_DIFFERENT, CAPN_NOT_CANONICAL, CAPN_NO_ROOM as NO_ROOM, CAPN_NO_SCRATCH,
+    CAPN_OK as OK,
 };
 
 use crate::{Error, Form, Limits, ScratchError, Style};
@@ -353,6 +354,36 @@ pub(crate) fn departure(
     assert!(numbers <= room, "no more than there is room for");
     unsafe { way.set_len(numbers) };
     Ok((departed, way))
+}
+
+/// The lines of a message: first with room for a few, and then, if there are more, with room for as many as the call
+/// reports.
+pub(crate) fn annotate(
+    form: Form,
+    message: &[u8],
+    limits: &Limits,
+) -> Result<Vec<capn_line>, Error> {
+    let (bytes, size, raw) = (message.as_ptr(), message.len(), limits.raw());
+    let mut lines: Vec<capn_line> = Vec::new();
+    let mut wanted = 256;
+    loop {
+        lines.try_reserve_exact(wanted).map_err(|_| Error::Memory)?;
+        let (at, room) = (lines.as_mut_ptr(), lines.capacity());
+        let mut report = capn_report::default();
+        let status = unsafe {
+            capn_sys::capn_annotate(form as u32, bytes, size, &raw, at, room, &mut report)
+        };
+        let count = report.length as usize / core::mem::size_of::<capn_line>();
+        match status {
+            OK => {
+                assert!(count <= room, "no more than there is room for");
+                unsafe { lines.set_len(count) };
+                return Ok(lines);
+            }
+            NO_ROOM if count > room => wanted = count,
+            _ => return Err(Error::of(status, &report, limits)),
+        }
+    }
 }
 
 /// Moves a result to a block of its own length if the one that it has is more than twice as long: a message may be far

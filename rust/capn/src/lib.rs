@@ -39,6 +39,7 @@ mod error;
 mod fields;
 mod index;
 mod limits;
+mod lines;
 mod message;
 #[cfg(feature = "std")]
 mod reader;
@@ -54,6 +55,7 @@ pub use error::{Error, Kind, Place};
 pub use fields::{Number, Numbers, Pointers, Rows, Struct};
 pub use index::{Index, Value};
 pub use limits::{Form, Limit, Limits, Style, Tariff};
+pub use lines::{annotate, Line, LineKind, Lines};
 #[allow(deprecated)]
 pub use message::is_canonical;
 pub use message::{
