@@ -9,6 +9,7 @@ pub mod DecidedPacked
 pub mod DecidedPath
 pub mod DecidedPieces
 pub mod DecidedRoom
+pub mod DecidedLines
 pub mod DecidedScratch
 pub mod DecidedText
 pub mod Delivered

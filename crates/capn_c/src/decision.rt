@@ -6,6 +6,7 @@
 ghost use Rattle.std.specs.Prelude.{◌≡◌};
 ghost use Rattle.capn_c.specs.Decision.{Agree};
 
+use crate::annotate_call::capn_annotate;
 use crate::canonical_call::capn_canonical;
 use crate::canonical_scratch_call::capn_canonical_with_scratch;
 use crate::canonical_segments_call::capn_canonical_segments;
@@ -23,6 +24,7 @@ use crate::show_call::capn_show;
 use crate::survey_call::capn_survey;
 use crate::survey_segments_call::capn_survey_segments;
 use capn_abi::{CapnLimits, CapnReport};
+use capn_answers::CapnLine;
 use capn_scratch::laws::decision;
 use std::alloc::Global;
 
@@ -223,6 +225,24 @@ pub fn show(
 {
     let one = capn_show(alloc, form, bytes, limits, style, out, first);
     let other = capn_show(alloc, form, bytes, limits, style, out, second);
+    (one, other)
+}
+
+/// States that the arguments of `capn_annotate` and the length of the array decide the status and the report, unless a
+/// status is 8.
+pub fn annotate(
+    alloc: Global,
+    form: u32,
+    bytes: &[u8],
+    limits: &CapnLimits,
+    out: &mut [CapnLine],
+    first: &mut CapnReport,
+    second: &mut CapnReport,
+) -> (u32, u32)
+    ensures { Agree result.0 first.new result.1 second.new }
+{
+    let one = capn_annotate(alloc, form, bytes, limits, out, first);
+    let other = capn_annotate(alloc, form, bytes, limits, out, second);
     (one, other)
 }
 
