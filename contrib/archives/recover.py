@@ -130,7 +130,7 @@ class Archive:
             self.data = mmap.mmap(file.fileno(), 0, access=mmap.ACCESS_READ) if self.size else b""
 
     def spans(self) -> Iterator[Span]:
-        """Yields the bytes of the archive in order. Each range of bytes is kept or skipped."""
+        """Yields the archive as ranges of bytes, in order. Each range is marked as kept or as skipped."""
         at = 0
         while at < self.size:
             begin, messages, bad = at, 0, None

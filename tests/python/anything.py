@@ -85,8 +85,8 @@ def things(found):
 
 
 def parts(found, shown):
-    """Yields the words of an output line, one word for each kind of object. The word is what `shown` makes of the
-    numbers, or `-` if the pointer can't be read as this kind."""
+    """Reads a pointer as each kind of object, and yields a word of the output line for each kind. The word is what
+    `shown` makes of the object's numbers, or `-` if the pointer can't be read as this kind."""
     for call, numbers in things(found):
         try:
             answer = call()
