@@ -123,7 +123,8 @@ class Annotated(unittest.TestCase):
                 capn.annotate(data, form)
             self.assertEqual(str(caught.exception), text)
         with self.assertRaises(capn.Refusal) as caught:
-            capn.annotate(bytes.fromhex("0000000000000100" "0000000001000000"), "bare", capn.Limits(depth=1))
+            deep = bytes.fromhex("0000000000000100" "0000000001000000" "0500000000000000")
+            capn.annotate(deep, "bare", capn.Limits(depth=1))
         self.assertEqual((caught.exception.name, caught.exception.way), ("TooDeep", (0,)))
         self.assertRaises(ValueError, capn.annotate, bytes(8), "other")
         self.assertRaises(TypeError, capn.annotate, "text", "bare")
