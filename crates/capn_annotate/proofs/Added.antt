@@ -1,13 +1,13 @@
 -- Texts that are added to the output of a run one after the other.
-use Rattle.std.proofs.Common.{◌≡◌, inl, inr, ℕ, ◌+◌, ◌≤◌, ◌<◌, List, [], ◌++◌, length, take, Bool, true, false}
+use Rattle.std.proofs.Common.{◌≡◌, ℕ, ◌+◌, ◌≤◌, List, [], ◌++◌, length, take, Bool, true, false}
 use Rattle.std.proofs.Common.{Result, Ok, Err}
-use Rattle.std.proofs.Common.{refl, sym, subst, ◌∙◌, arith, nat_lt, ◌⊎◌, IsErrAnd}
+use Rattle.std.proofs.Common.{refl, sym, subst, ◌∙◌, arith, nat_lt, IsErrAnd}
 use Rattle.std.proofs.lemmas.Bool.Decides.{nat_tests}
 use Rattle.std.proofs.Math.Seq.{take-append-add, take-append_seam}
 use Rattle.std.proofs.lemmas.List.{take-append-le, take_all}
 use Rattle.capn_serve.specs.declared.fault.ServeFault.{ServeFault}
 use Rattle.capn_serve.specs.declared.fault.ServeFault.TheVariants as faults
-use Rattle.capn_serve.specs.Outgoing.{Outgoing, Adds, AddsBytes, Breaks}
+use Rattle.capn_serve.specs.Outgoing.{Outgoing, Adds, AddsBytes}
 use Rattle.capn_serve.proofs.shared.Adding.{added_none, added_both, broken_after, broken_before}
 use Rattle.capn_annotate.specs.inner.Adding.{AddsText}
 

@@ -1,6 +1,5 @@
 -- Lemmas for `run_annotate`: `Annotated` holds for a run that served the messages of its input.
 use Rattle.std.proofs.Common.{◌≡◌, ℕ, List, Bool, Option, Result, subst}
-use Rattle.capn_canon.specs.declared.form.Form.{Form}
 use Rattle.capn_serve.specs.Fold.{fold_of}
 use Rattle.capn_serve.specs.FormRun.{ServesMessages}
 use Rattle.capn_serve.specs.StreamRun.{first_run}

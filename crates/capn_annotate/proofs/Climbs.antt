@@ -1,5 +1,5 @@
 -- One level of a way.
-use Rattle.std.proofs.Common.{◌≡◌, ◌≢◌, ℕ, zero, suc, ◌-◌, List, ◌++◌, refl, ap, sym, ◌∙◌, subst, arith, append_assoc}
+use Rattle.std.proofs.Common.{◌≡◌, ◌≢◌, ℕ, zero, suc, ◌-◌, List, ◌++◌, refl, ap, sym, ◌∙◌, arith, append_assoc}
 use Rattle.std.proofs.Common.{slice_index_or}
 use Rattle.capn_cover.specs.Covers.{unreached}
 use Rattle.capn_cover.specs.declared.covered.Covered.{Covered}

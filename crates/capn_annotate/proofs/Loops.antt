@@ -1,12 +1,10 @@
 -- The lines of a segment and of a message, one by one.
-use Rattle.std.proofs.Common.{◌≡◌, ℕ, zero, suc, ◌+◌, ◌-◌, ◌<◌, ◌≤◌, Bool, true, List, [], ◌∷◌, ◌++◌, length, refl}
+use Rattle.std.proofs.Common.{◌≡◌, ℕ, zero, suc, ◌+◌, ◌-◌, ◌<◌, ◌≤◌, true, List, [], ◌++◌, length, refl}
 use Rattle.std.proofs.Common.{ap, sym}
 use Rattle.std.proofs.Common.{◌∙◌, subst, arith, append-nil, append_assoc, add-one}
 use Rattle.std.proofs.lemmas.Grind.{flat_map-append}
 use Rattle.capn_words.specs.Message.{segment_at}
-use Rattle.capn_words.specs.declared.space.Place.{Place}
 use Rattle.capn_cover.specs.declared.covered.Covered.{Covered}
-use Rattle.capn_words.specs.Message.{IsPlace}
 use Rattle.capn_lines.specs.Lines.{begins, line_at, lines_before, lines_from, segment_lines}
 use Rattle.capn_lines.specs.declared.line.Line.{Line}
 use Rattle.capn_lines.proofs.shared.Lines.{line-next, lines-more}

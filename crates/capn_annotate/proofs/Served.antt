@@ -1,5 +1,5 @@
 -- The service does what `DoesService` states.
-use Rattle.std.proofs.Common.{◌≡◌, ◌≢◌, ◌⊎◌, inl, inr, ℕ, ◌==◌, List, [], Bool, true, false, Result, Ok, Err, refl}
+use Rattle.std.proofs.Common.{◌≡◌, ◌≢◌, ◌⊎◌, inl, inr, ℕ, ◌==◌, List, Bool, true, false, Result, Ok, Err, refl}
 use Rattle.std.proofs.Common.{ap, sym, subst, IsErrAnd, arith}
 use Rattle.std.proofs.lemmas.Bool.Decides.{nat_tests}
 use Rattle.capn_walk.specs.Accepted.{IsWalkRefused}
@@ -9,7 +9,7 @@ use Rattle.capn_canon.specs.declared.refusal.Refusal.TheVariants as refusals
 use Rattle.capn_serve.specs.declared.position.Position.{Position}
 use Rattle.capn_serve.specs.declared.fault.ServeFault.{ServeFault}
 use Rattle.capn_serve.specs.declared.fault.ServeFault.TheVariants as faults
-use Rattle.capn_serve.specs.Outgoing.{Outgoing, Adds}
+use Rattle.capn_serve.specs.Outgoing.{Outgoing}
 use Rattle.capn_serve.specs.Service.{DoesService}
 use Rattle.capn_serve.proofs.shared.Adding.{added_none}
 use Rattle.capn_cover.specs.declared.covered.Covered.{Covered}

@@ -1,5 +1,5 @@
 -- The columns of a line before its text. (Our own.)
-use Rattle.std.specs.Prelude.{◌≡◌, ℕ, ◌+◌, ◌-◌, nat_lt, List, [], ◌++◌, codes, refl, if◌then◌else◌}
+use Rattle.std.specs.Prelude.{◌≡◌, ℕ, ◌+◌, ◌-◌, nat_lt, List, ◌++◌, codes, refl, if◌then◌else◌}
 use Rattle.std.specs.Fmt.{decimal, digits}
 use Rattle.capn_words.specs.declared.space.Place.{Place}
 use Rattle.capn_diagnostics.specs.Texts.{path_text, word_text}

@@ -1,4 +1,4 @@
-//! The columns of a line before its way. Stored cases and docs/ANNOTATE.md have them as `annotate` prints them.
+//! The columns of a line before its way. Stored cases and docs/DEBUGGING.md have them as `annotate` prints them.
 
 use capn_diagnostics::WordText;
 use capn_lines::Kind;

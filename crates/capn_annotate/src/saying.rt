@@ -1,4 +1,4 @@
-//! The text of a line up to any quotation. Stored cases and docs/ANNOTATE.md have it as `annotate` prints it.
+//! The text of a line up to any quotation. Stored cases and docs/DEBUGGING.md have it as `annotate` prints it.
 
 use capn_diagnostics::{PointerText, TagText};
 use capn_words::{Place, Pointer, Width};

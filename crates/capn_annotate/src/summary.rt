@@ -1,4 +1,4 @@
-//! The last line of a message. Stored cases and docs/ANNOTATE.md have it as `annotate` prints it.
+//! The last line of a message. Stored cases and docs/DEBUGGING.md have it as `annotate` prints it.
 
 ghost use Rattle.std.specs.Prelude.{◌≡◌, IfOk, string_bytes};
 ghost use Rattle.capn_annotate.specs.Summary as spec;
@@ -88,7 +88,7 @@ impl fmt::Display for Summary {
     }
 }
 
-/// Returns the counts of a message in one line.
+/// Returns the `summary` of a message in one line.
 pub fn summary_line<A: Allocator>(alloc: A, summary: Summary) -> Result<String<A>, AllocError>
     ensures { IfOk result (λ text. string_bytes text ≡ spec.summary_text summary) }
 {

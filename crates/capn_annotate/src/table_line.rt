@@ -1,4 +1,4 @@
-//! The line of a segment table. Stored cases and docs/ANNOTATE.md have it as `annotate` prints it.
+//! The line of a segment table. Stored cases and docs/DEBUGGING.md have it as `annotate` prints it.
 
 ghost use Rattle.std.specs.Prelude.{◌≡◌, ◌^◌, ◌<◌, IfOk, string_bytes};
 ghost use Rattle.capn_words.specs.Message.{IsMessage};

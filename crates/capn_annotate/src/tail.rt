@@ -1,4 +1,4 @@
-//! The end of the text of a line. Stored cases and docs/ANNOTATE.md have it as `annotate` prints it.
+//! The end of the text of a line. Stored cases and docs/DEBUGGING.md have it as `annotate` prints it.
 
 use capn_words::Width;
 use std::fmt;

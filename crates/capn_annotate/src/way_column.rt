@@ -1,4 +1,4 @@
-//! The way of a line, as one column. Stored cases and docs/ANNOTATE.md have it as `annotate` prints it.
+//! The way of a line, as one column. Stored cases and docs/DEBUGGING.md have it as `annotate` prints it.
 
 use capn_diagnostics::PathText;
 use capn_lines::Kind;

@@ -129,8 +129,7 @@ fn packed_writes_what_the_stream_writes(rt: HostRuntime) -> Result<(), Fail> {
 /// lines.
 #[test]
 fn memory_may_be_refused_anywhere(rt: HostRuntime) -> Result<(), Fail> {
-    let mut nth = 1;
-    for _ in 0..1000u32 {
+    for nth in 1..1000u64 {
         let heap = Refusing::nth(rt.alloc(), nth);
         let (ending, text) = annotated(rt.alloc(), &heap, Form::Stream, false, &WHOLE);
         assert!(rt; WHOLE_LINES.starts_with(text.as_slice()));
@@ -139,7 +138,6 @@ fn memory_may_be_refused_anywhere(rt: HostRuntime) -> Result<(), Fail> {
             return Ok(());
         }
         assert!(rt; ending == Err(RunFault::Memory), "{nth}: {ending:?}");
-        nth += 1;
     }
     assert!(rt; false);
     Ok(())

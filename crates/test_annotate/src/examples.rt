@@ -1,4 +1,4 @@
-//! The messages of docs/ANNOTATE.md, with the lines that stand there.
+//! Four worked messages, with the lines that `annotate` writes for them.
 
 use crate::run::writes;
 use capn_canon::Form;

@@ -4,6 +4,8 @@
 #![tactic(auto)]
 
 #[cfg(test)]
+mod asked_inputs;
+#[cfg(test)]
 mod counted_bare;
 #[cfg(test)]
 mod counted_bytes;

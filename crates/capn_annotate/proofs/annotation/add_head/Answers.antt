@@ -1,6 +1,5 @@
 use Rattle.capn_words.specs.Watched.{has_failed, inner_of}
 use Rattle.capn_serve.specs.Outgoing.{outgoing}
-use Rattle.capn_annotate.specs.Table.{table_text}
 use Rattle.capn_annotate.proofs.Added.{other_text}
 use Rattle.capn_annotate.proofs.Served.{with_table}
 use Rattle.capn_annotate.proofs.annotation.add_head.Goals as goal

@@ -1,4 +1,4 @@
-use Rattle.std.proofs.Common.{◌++◌, List, ℕ, Ok, Err, ap}
+use Rattle.std.proofs.Common.{◌++◌, ℕ, ap}
 use Rattle.capn_words.specs.Watched.{has_failed, inner_of}
 use Rattle.capn_serve.specs.Outgoing.{outgoing}
 use Rattle.capn_annotate.specs.Annotation.{body_text, first_byte, head_text}

@@ -1,4 +1,4 @@
-use Rattle.std.proofs.Common.{◌≡◌, Bool, false, Result, Ok}
+use Rattle.std.proofs.Common.{◌≡◌, false, Ok}
 use Rattle.capn_words.specs.Watched.{has_failed, inner_of}
 use Rattle.capn_lines.specs.Lines.{lines_before}
 use Rattle.capn_serve.specs.Outgoing.{outgoing}

@@ -1,4 +1,4 @@
-use Rattle.std.proofs.Common.{◌≡◌, ◌+◌, List, [], ℕ, false, refl, rules, arith, ◌++◌, ◌∙◌, Ok, Err}
+use Rattle.std.proofs.Common.{◌+◌, [], false, refl, arith, ◌++◌, ◌∙◌, Ok, Err}
 use Rattle.capn_words.specs.Watched.{has_failed, inner_of}
 use Rattle.capn_serve.specs.Outgoing.{outgoing}
 use Rattle.capn_annotate.specs.LineTexts.{line_text}

@@ -1,5 +1,4 @@
-use Rattle.std.proofs.Common.{◌≡◌, ◌≤◌, ◌<◌, ◌-◌, ◌++◌, ℕ, List, Bool, true, false, Result, Ok, length}
-use Rattle.capn_words.specs.Message.{segment_at}
+use Rattle.std.proofs.Common.{◌≡◌, ◌≤◌, ◌<◌, ◌-◌, ◌++◌, ℕ, List, true, false, Ok}
 use Rattle.capn_words.specs.Watched.{has_failed, inner_of}
 use Rattle.capn_lines.specs.Lines.{begins}
 use Rattle.capn_serve.specs.Outgoing.{outgoing}
