@@ -100,7 +100,7 @@ static void each_form(size_t m, uint8_t **pages) {
     }
 }
 
-/* Tests what a call doesn't answer. It leaves the lines unchanged. */
+/* Makes calls that return an error. Each of them must leave the array of lines unchanged. */
 static void refused(void) {
     const uint8_t range[8] = {0, 0, 0, 0, 1}, null[8] = {0};
     const capn_limits none = limits_of(0, 1, 1, CAPN_STRICT), third = limits_of(1, 1, 1, 2);

@@ -296,7 +296,7 @@ static void ways() {
     want("none of a refused one", thrown<capn::refusal>([] { capn::departure(cut); }) == "frame: Cut");
 }
 
-/* A line, with what the command prints of it in words. */
+/* Returns a line as text. The kind is written as `capn annotate` writes it. */
 static std::string told(const capn::line &line) {
     static const char *const kinds[] = {"pointer", "null", "pad", "tag", "data", "list", "slack", "unreached"};
     const auto of = [](capn::place at) { return std::to_string(at.segment) + ":" + std::to_string(at.word); };

@@ -137,7 +137,7 @@ static void led(uint32_t form, const uint8_t *bytes, size_t size, capn_status ch
 }
 
 /* capn_annotate must report the same as capn_check. Each word of a message must be in exactly one of its lines, in
- * order. The words that aren't zero must be those that the lines count. */
+ * order. For each line, the number of words that aren't zero must be right. */
 static void lined(uint32_t form, const uint8_t *bytes, size_t size, capn_status check, const capn_report *checked) {
     capn_report report;
     const capn_status status = capn_annotate(form, bytes, size, &limits, NULL, 0, &report);

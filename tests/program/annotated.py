@@ -225,8 +225,8 @@ class Notes:
                     "" if way is None else explained.dotted(way), text)
 
     def text(self, segment, at, end, kind):
-        """Returns the text of a line without its endings for words that are left out and for overlaps. Also returns how
-        much the line adds to the count of hidden ones."""
+        """Returns the text of a line, without the endings about words that canonical bytes leave out and about
+        overlaps. Also returns the number that the line adds to the count `hidden`."""
         number, size = self.cover.starts[segment] + at, end - at
         word, part = self.value(number), self.cover.parts[number]
         if kind == "null":
