@@ -1,6 +1,6 @@
 //! What is written for the bytes of a text.
 
-ghost use Rattle.std.specs.Prelude.{◌≡◌, ◌≤◌, ◌<◌, ◌+◌, ◌^◌, ◌%◌, [], ◌∷◌, ◌++◌, length, take, drop, false};
+ghost use Rattle.std.specs.Prelude.{◌≡◌, ◌≤◌, ◌<◌, ◌+◌, ◌^◌, ◌%◌, [], ◌∷◌, ◌++◌, length, take, drop, false, ◌==◌};
 ghost use Rattle.capn_quoted.specs.Escapes as spec;
 
 use crate::hidden::is_hidden;
@@ -8,12 +8,29 @@ use crate::hidden::is_hidden;
 /// The length of the longest run of unescaped bytes that is appended at once.
 const PIECE: usize = 4096;
 
+/// Returns `true` if `byte`, which is ASCII, is a quote or a backslash.
+fn is_marked(byte: u8) -> bool
+    requires low { 32 ≤ byte }
+    requires high { byte < 128 }
+    ensures quote { result ≡ false → (byte == 34) ≡ false }
+    ensures backslash { result ≡ false → (byte == 92) ≡ false }
+{
+    // Each byte from 0x20 on has an x here if it is a quote or a backslash, and else a dot.
+    let marks =
+        b"..x.........................................................x...................................";
+    marks[(byte - 32) as usize] == b'x'
+}
+
 /// Returns `true` if `byte` may need an escape, or may begin a hidden code point.
 fn may_be_escaped(byte: u8) -> bool
     ensures bare { result ≡ false → spec.escaped byte ≡ byte ∷ [] }
     ensures low { result ≡ false → byte < 192 }
 {
-    byte < 32 || byte == b'"' || byte == b'\\' || byte >= 192
+    if byte < 32 || byte >= 128 {
+        byte < 32 || byte >= 192
+    } else {
+        is_marked(byte)
+    }
 }
 
 /// Returns the number of bytes at the front of `bytes` that stand as they are between quotes. The result is at most
