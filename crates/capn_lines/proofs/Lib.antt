@@ -2,8 +2,13 @@ pub mod shared
 mod Sums
 mod Numbered
 mod Counted
-mod Lines
-mod LineWalks
-mod Orders
 mod Covers
+mod Orders
+mod Objects
+mod SameObjects
+mod Places
+mod Together
+mod LineWalks
+mod Lines
+mod OneLine
 mod WorkedLines

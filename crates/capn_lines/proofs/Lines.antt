@@ -2,7 +2,6 @@
 use Rattle.std.proofs.Common.{◌≡◌, ℕ, zero, suc, ◌+◌, ◌-◌, ◌==◌, ◌&&◌, ◌<◌, Bool, true, false, not, List, ◌∷◌}
 use Rattle.std.proofs.Common.{◌++◌, length, refl, ap, sym, ◌∙◌, arith}
 use Rattle.std.specs.List.{flat_map}
-use Rattle.std.proofs.lemmas.Bool.Decides.{nat_tests}
 use Rattle.capn_words.specs.Message.{segment_at}
 use Rattle.capn_words.specs.declared.space.Place.{Place}
 use Rattle.capn_walk.specs.Visits.{places}
@@ -13,6 +12,7 @@ use Rattle.capn_lines.specs.Lines.{are_alike, begins, behind, covered_at, follow
 use Rattle.capn_lines.specs.Lines.{lines_from, segment_lines}
 use Rattle.capn_lines.specs.declared.kind.Kind.{Kind}
 use Rattle.capn_lines.specs.declared.kind.Kind.TheVariants as kinds
+use Rattle.capn_lines.proofs.SameObjects.{both-true, same-numbers}
 use Rattle.capn_lines.proofs.shared.Lines.{begins-behind, followers-few, followers-more, followers-none}
 
 places-add : (s w a b : ℕ) → places s w (a + b) ≡ places s w a ++ places s (w + a) b
@@ -26,14 +26,6 @@ places-add s w (suc a) b =
     rw (x, y) (ap (λ (ps : List Place). (record { segment = s; word = w }) ∷ ps) (places-add s (w + 1) a b))
 
 -- ---- two words that stand in one line
-
-both-true : (a b : Bool) → (a && b) ≡ true → (a ≡ true) × (b ≡ true)
-both-true true true e = (refl, refl)
-both-true true false e = absurd cc
-both-true false b e = absurd cc
-
-same-numbers : (a b : ℕ) → (a == b) ≡ true → a ≡ b
-same-numbers a b e = grind (arith, nat_tests)
 
 join-same : (one other : Kind) → may_join one other ≡ true → one ≡ other
 join-same kinds.Null kinds.Null e = refl
@@ -88,7 +80,7 @@ module _ (m : List (List ℕ)) (ws : List Covered) where
 
   module _ (at : Place) where
     -- word `k + 1` of a line and the word before it
-    next-alike : (k : ℕ)
+    pub next-alike : (k : ℕ)
         → k < followers m ws at.segment (at.word + 1) (length (segment_at m at.segment) - (at.word + 1))
         → AreSame (kind_at m ws (behind at k)) (covered_at m ws (behind at k))
         (kind_at m ws (behind at (suc k))) (covered_at m ws (behind at (suc k)))

@@ -85,7 +85,7 @@ apart word c (inr e) =
     rw e (omega arith)
 
 module _ (m : List (List ℕ)) (limits : Bounds) (ws : List Covered) (h : IsCover m limits ws) where
-  covered-is : (at : Place) → IsPlace m at
+  pub covered-is : (at : Place) → IsPlace m at
       → covered_at m ws at ≡ cover_at m (coverings m limits) (number m at)
   covered-is at k = h.is (number m at) (number-within m at k)
 

@@ -1,9 +1,11 @@
 -- The laws of the lines of a message. (Our own.)
 use Rattle.std.specs.Prelude.{◌≡◌, ℕ, ◌<◌, true, List, length}
 use Rattle.std.specs.List.{flat_map}
-use Rattle.capn_words.specs.Message.{segment_at}
+use Rattle.capn_words.specs.Message.{segment_at, IsPlace}
 use Rattle.capn_words.specs.declared.space.Place.{Place}
+use Rattle.capn_walk.specs.Limits.{Bounds}
 use Rattle.capn_walk.specs.Visits.{places}
+use Rattle.capn_cover.specs.Cover.{IsCover}
 use Rattle.capn_cover.specs.declared.covered.Covered.{Covered}
 use Rattle.capn_lines.specs.Kinds.{may_join}
 use Rattle.capn_lines.specs.Lines.{behind, covered_at, kind_at, line_at, segment_lines}
@@ -36,3 +38,10 @@ abbrev pub LongLinesMayJoin : Type 0
 LongLinesMayJoin =
     (message : List (List ℕ)) (words : List Covered) (at : Place) → 1 < (line_at message words at).words
     → may_join (line_at message words at).kind (line_at message words at).kind ≡ true
+
+-- of the cover of a message, the words of one line are all overlaps, or none is
+abbrev pub OverlapsTogether : Type 0
+OverlapsTogether =
+    (message : List (List ℕ)) (limits : Bounds) (words : List Covered) → IsCover message limits words
+    → (at : Place) → IsPlace message at → (k : ℕ) → k < (line_at message words at).words
+    → (covered_at message words (behind at k)).overlap ≡ (line_at message words at).overlap
