@@ -20,12 +20,15 @@ _USUAL_WORDS = 8388608 + _TABLE_WORDS
 _new, _report_type = ffi.new, ffi.typeof("capn_report *")
 _figures_type = ffi.typeof("capn_figures *")
 _room = ffi.new_allocator(should_clear_after_alloc=False)
-_room_type, _digest_type, _which_type = ffi.typeof("uint8_t[]"), ffi.typeof("uint8_t[32]"), ffi.typeof("uint32_t *")
-_capn_check, _new_tuple = lib.capn_check, tuple.__new__
+_room_type, _which_type = ffi.typeof("uint8_t[]"), ffi.typeof("uint32_t *")
+# These names are looked up once, because a look-up is a large part of a short call.
+_capn_check, _capn_hash, _new_tuple, _unpack = lib.capn_check, lib.capn_hash, tuple.__new__, ffi.unpack
 # The longest buffer that is allocated before a message was looked at: a longer result takes a second call.
 _MOST_ROOM = 1 << 28
 # Reports that no call uses. Each call takes one for itself, whatever threads and signal handlers run meanwhile.
 _reports: list[Any] = []
+# Rooms for a digest that no call uses: 32 characters, and their address as the library takes it.
+_digests: list[tuple[Any, Any]] = []
 
 
 class Checked(NamedTuple):
@@ -61,6 +64,14 @@ def _report() -> Any:
         return _reports.pop()
     except IndexError:
         return _new(_report_type)
+
+
+def _digest_room() -> tuple[Any, Any]:
+    try:
+        return _digests.pop()
+    except IndexError:
+        characters = _new("char[32]")
+        return characters, ffi.cast("uint8_t *", characters)
 
 
 def _form(form: str) -> int:
@@ -252,12 +263,15 @@ def _is_canonical(data: Buffer, given: Any, bounds: Any) -> bool:
 def digest(data: Buffer, form: Form = "stream", limits: Limits = _USUAL, *, in_place: bool = False) -> bytes:
     """Returns the SHA-256 of the canonical bytes of one message, 32 bytes."""
     number, given, bounds = _taken(data, form, limits, in_place)
-    out, report = _new(_digest_type), _report()
-    status = lib.capn_hash(number, given, len(given), bounds, out, report)
-    if status != lib.CAPN_OK:
+    room, report = _digest_room(), _report()
+    characters, out = room
+    status = _capn_hash(number, given, len(given), bounds, out, report)
+    if status:
         raise refused(status, report, number, data, given, bounds)
+    answer: bytes = _unpack(characters, 32)
     _reports.append(report)
-    return bytes(ffi.buffer(out))
+    _digests.append(room)
+    return answer
 
 
 def pack(data: Buffer, *, in_place: bool = False) -> bytes:

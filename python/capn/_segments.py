@@ -9,7 +9,8 @@ from ._calls import (
     _USUAL,
     Checked,
     Surveyed,
-    _digest_type,
+    _digest_room,
+    _digests,
     _figures_type,
     _filled,
     _laid_out,
@@ -17,6 +18,7 @@ from ._calls import (
     _report,
     _reports,
     _surveyed,
+    _unpack,
 )
 from ._capn import ffi, lib
 from ._limits import Limits
@@ -140,6 +142,9 @@ def canonical_segments(segments: Iterable[Buffer], limits: Limits = _USUAL, *, i
 
 def digest_segments(segments: Iterable[Buffer], limits: Limits = _USUAL, *, in_place: bool = False) -> bytes:
     """Returns the SHA-256 of the canonical bytes of a message in segments, 32 bytes."""
-    out = _new(_digest_type)
+    room = _digest_room()
+    characters, out = room
     _reports.append(_told(lib.capn_hash_segments, _Laid(segments, limits, in_place), limits, out))
-    return bytes(ffi.buffer(out))
+    answer: bytes = _unpack(characters, 32)
+    _digests.append(room)
+    return answer
