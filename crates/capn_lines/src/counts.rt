@@ -1,10 +1,10 @@
-//! How many words of a message are of each kind.
+//! The counts of the words of a message by kind.
 
 ghost use Rattle.std.specs.Prelude.{◌≡◌};
 ghost use Rattle.capn_lines.specs.inner.Counted.{none};
 
-/// How many words of a message are of each kind, and how many are shared, overlap, hide something or are cut. (Our
-/// own.)
+/// The numbers of words of a message that are of each kind, and that are shared, overlap, hide something or are cut.
+/// (Our own.)
 #[derive(Clone, Copy, Debug, PartialEq, Eq)]
 pub struct Counts {
     /// The words of all segments.

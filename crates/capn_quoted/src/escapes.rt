@@ -1,4 +1,4 @@
-//! What is written for the bytes of a text.
+//! The bytes that are written between quotes for those of a text.
 
 ghost use Rattle.std.specs.Prelude.{◌≡◌, ◌≤◌, ◌<◌, ◌+◌, ◌^◌, ◌%◌, [], ◌∷◌, ◌++◌, length, take, drop, false, ◌==◌};
 ghost use Rattle.capn_quoted.specs.Escapes as spec;

@@ -9,7 +9,7 @@ const SEVEN: [u8; 24] = [
     0, 0, 0, 0, 2, 0, 0, 0, 0, 0, 0, 0, 1, 0, 0, 0, 7, 0, 0, 0, 0, 0, 0, 0,
 ];
 
-/// The same struct as bare words, with a word of zeros after it.
+/// The struct of `SEVEN` as bare words, with a word of zeros after it.
 const LONGER: [u8; 24] = [
     0, 0, 0, 0, 1, 0, 0, 0, 7, 0, 0, 0, 0, 0, 0, 0, 0, 0, 0, 0, 0, 0, 0, 0,
 ];
