@@ -1,4 +1,5 @@
 mod Added
+mod Escapes
 mod Climbs
 mod Loops
 mod Served

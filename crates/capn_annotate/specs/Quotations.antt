@@ -1,27 +1,13 @@
 -- The bytes of a list between quotes, as `show --text` writes ASCII. (Our own.)
-use Rattle.std.specs.Prelude.{◌≡◌, ℕ, ◌==◌, nat_le, nat_lt, Bool, true, false, not, ◌&&◌, ◌||◌, List, [], ◌∷◌, ◌++◌}
+use Rattle.std.specs.Prelude.{◌≡◌, ℕ, nat_lt, Bool, true, false, not, ◌&&◌, ◌||◌, List, [], ◌∷◌, ◌++◌}
 use Rattle.std.specs.Prelude.{length, take, codes, refl, if◌then◌else◌}
+use Rattle.capn_quoted.specs.Escapes.{escapes}
+use Rattle.capn_quoted.specs.Texts.{ends_in_zero, is_ascii_text}
 
--- The byte is from 0x20 to 0x7e.
-abbrev pub is_printable : ℕ → Bool
-is_printable b = nat_le 32 b && nat_le b 126
-
--- Bytes that may stand between quotes: there is one, and each is from 0x20 to 0x7e. If `ends` is true, the last one is
--- the last byte of its list, and may be zero.
+-- Bytes that may stand between quotes: an ASCII text, whose last byte may be zero only if `ends` is true, which means
+-- that this is the last byte of the list.
 abbrev pub is_quoted : (ends : Bool) → List ℕ → Bool
-is_quoted ends [] = false
-is_quoted ends (b ∷ []) = is_printable b || (ends && (b == 0))
-is_quoted ends (b ∷ c ∷ bs) = is_printable b && is_quoted ends (c ∷ bs)
-
--- A byte between quotes.
-abbrev pub escaped : ℕ → List ℕ
-escaped b =
-    if b == 34 then codes "\\\"" else if b == 92 then codes "\\\\" else if b == 0 then codes "\\0" else b ∷ []
-
--- Bytes between quotes.
-abbrev pub escapes : List ℕ → List ℕ
-escapes [] = []
-escapes (b ∷ bs) = escaped b ++ escapes bs
+is_quoted ends xs = is_ascii_text xs && (ends || not (ends_in_zero xs))
 
 -- The bytes `xs` between quotes, and two dots if `more` bytes follow. Nothing if they may not stand there.
 abbrev pub quotation : (ends more : Bool) → List ℕ → List ℕ

@@ -1,10 +1,12 @@
-//! The bytes of a list between quotes.
+//! The bytes of a list between quotes, as `show --text` writes ASCII.
 
-ghost use Rattle.std.specs.Prelude.{◌≡◌, ◌++◌, ◌||◌, ◌&&◌, ◌==◌, OnOk};
+ghost use Rattle.std.specs.Prelude.{◌≡◌, ◌++◌, OnOk, true};
+ghost use Rattle.capn_quoted.specs.Escapes.{escaped, escapes};
+ghost use Rattle.capn_quoted.specs.Texts.{ends_in_zero, is_ascii_text};
 ghost use Rattle.capn_annotate.specs.Quotations as spec;
-ghost use Rattle.capn_annotate.specs.Quotations.{escaped, escapes};
 
 use crate::parts_of_bytes::front;
+use capn_quoted::is_ascii_text;
 use std::alloc::{AllocError, Allocator};
 
 /// The greatest number of bytes that are quoted.
@@ -17,13 +19,18 @@ fn put_escaped<A: Allocator>(line: &mut Vec<u8, A>, byte: u8) -> Result<(), Allo
     match byte {
         b'"' => line.extend_from_slice(b"\\\""),
         b'\\' => line.extend_from_slice(b"\\\\"),
+        b'\t' => line.extend_from_slice(b"\\t"),
+        b'\n' => line.extend_from_slice(b"\\n"),
+        b'\r' => line.extend_from_slice(b"\\r"),
         0 => line.extend_from_slice(b"\\0"),
         _ => Ok(line.push(byte)?),
     }
 }
 
-/// Appends `bytes` to `line` as they are written between quotes.
+/// Appends `bytes`, an ASCII text, to `line` as they are written between quotes.
+#[tactic(auto, using(crate::proofs::Escapes::escapes_step, crate::proofs::Escapes::ascii_low))]
 fn put_escapes<A: Allocator>(line: &mut Vec<u8, A>, bytes: &[u8]) -> Result<(), AllocError>
+    requires ascii { is_ascii_text bytes.now ≡ true }
     ensures { OnOk result (line.new.items ≡ line.old.items ++ escapes bytes.now) }
 {
     for i in 0..bytes.len() {
@@ -32,19 +39,15 @@ fn put_escapes<A: Allocator>(line: &mut Vec<u8, A>, bytes: &[u8]) -> Result<(), 
     Ok(())
 }
 
-/// Tests whether `byte` is from 0x20 to 0x7e.
-fn is_printable(byte: u8) -> bool
-    ensures { result ≡ spec.is_printable byte }
+/// Tests whether the last of `bytes` is zero.
+#[tactic(auto, using(crate::proofs::Escapes::zero_at))]
+fn ends_in_zero(bytes: &[u8]) -> bool
+    ensures { result ≡ ends_in_zero bytes.now }
 {
-    32 <= byte && byte <= 126
-}
-
-/// Tests whether `byte` may be the last one between quotes. `ends` says whether it is the last byte of its list, which
-/// may be zero.
-fn may_end(ends: bool, byte: u8) -> bool
-    ensures { result ≡ (spec.is_printable byte || (ends && (byte == 0))) }
-{
-    is_printable(byte) || ends && byte == 0
+    if bytes.is_empty() {
+        return false;
+    }
+    bytes[bytes.len() - 1] == 0
 }
 
 /// Tests whether `bytes` may stand between quotes. `ends` says whether the last of them is the last byte of its list,
@@ -52,16 +55,7 @@ fn may_end(ends: bool, byte: u8) -> bool
 fn is_quoted(ends: bool, bytes: &[u8]) -> bool
     ensures { result ≡ spec.is_quoted ends bytes.now }
 {
-    if bytes.is_empty() {
-        return false;
-    }
-    let last = bytes.len() - 1;
-    for i in 0..last {
-        if !is_printable(bytes[i]) {
-            return false;
-        }
-    }
-    may_end(ends, bytes[last])
+    is_ascii_text(bytes) && (ends || !ends_in_zero(bytes))
 }
 
 /// Appends a blank and `bytes` between quotes to `line`, and two dots if `more` bytes follow. Nothing is appended if
