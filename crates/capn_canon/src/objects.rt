@@ -33,6 +33,7 @@ pub fn open_struct<S: Space, L: Ledger>(
     requires word { word ≡ slice_index space.now pass.from }
     requires near { word % 2 ^ 32 ≡ 4 * (pass.next - pass.from - 1) }
     ensures found { IfSome result (λ r. (pass.from < r.from) × IsOpen space.now r × Opens space.now base pass r) }
+    ensures deeper { IfSome result (λ r. r.depth < pass.depth) }
     ensures only { 0 < word → DueFirst space.now base pass → DueIn space.now base result }
     ensures reads { IfSome result (λ r. reads.new + may_read r ≤ reads.old + 10 * pass.left + 3) }
     ensures most { reads.new ≤ reads.old + 3 }
@@ -104,6 +105,7 @@ pub fn open_pointers<S: Space, L: Ledger>(
     requires message { IsMessage (space.now ∷ []) }
     requires list { HasList space.now pass Link count }
     ensures found { IfSome result (λ r. (pass.from < r.from) × IsOpen space.now r × Opens space.now base pass r) }
+    ensures deeper { IfSome result (λ r. r.depth < pass.depth) }
     ensures only { DueFirst space.now base pass → DueIn space.now base result }
     ensures reads { IfSome result (λ r. reads.new + may_read r ≤ reads.old + 10 * pass.left + 1) }
     ensures most { reads.new ≤ reads.old + 1 }
@@ -141,6 +143,7 @@ pub fn open_composite<S: Space, L: Ledger>(
     ensures found { IfSome result (λ r. (pass.from < r.pass.from) × IsOpen space.entry r.pass
         × (r.pass.from + r.tag.count * (r.tag.words + r.tag.slots) ≡ r.pass.end)
         × OpensRows space.entry base pass r) }
+    ensures deeper { IfSome result (λ r. r.pass.depth < pass.depth) }
     ensures only { DueFirst space.entry base pass → DueRowsIn space.entry base result }
     ensures reads { IfSome result (λ r.
         reads.new + 10 * r.pass.left + 8 * (r.tag.count * r.tag.slots) ≤ reads.old + 10 * pass.left + 5) }

@@ -27,7 +27,8 @@ use std::sync::ledger::Ledger;
 /// Tests the slots of `pass` and everything below them. Returns the progress after the test. Returns `None` if an
 /// object is not laid out canonically, if a slot holds a capability, or if the limit on depth or price is exceeded.
 ///
-/// Each level of depth takes at most one frame of the stack, of this function or of [`check_rows`].
+/// The measure of the recursion is `pass.depth`. Each level of depth takes at most one frame of the stack, of this
+/// function or of [`check_rows`].
 #[cycle(pass)]
 #[inline(never)]
 pub fn check_object<S: Space, L: Ledger, const DEEP: bool>(
@@ -88,6 +89,7 @@ fn check_slot<S: Space, L: Ledger, const DEEP: bool>(
     requires opened { IsOpen space.now pass }
     requires some { pass.from < pass.end }
     ensures found { IfSome result (λ r. GoesOn space.now base DEEP pass least.old r least.new) }
+    ensures low { IfSome result (λ r. r.depth ≤ pass.depth) }
     ensures only { Due space.now base pass → DueIn space.now base result }
     ensures reads { IfSome result (λ r. reads.new + 1 + may_read r ≤ reads.old + may_read pass) }
     ensures most { reads.new + 1 ≤ reads.old + may_read pass }
@@ -133,6 +135,7 @@ fn check_struct<S: Space, L: Ledger, const DEEP: bool>(
     requires word { word ≡ slice_index space.now pass.from }
     requires near { word % 2 ^ 32 ≡ 4 * (pass.next - pass.from - 1) }
     ensures found { IfSome result (λ r. GoesOn space.now base DEEP pass least.old r least.new) }
+    ensures low { IfSome result (λ r. r.depth ≤ pass.depth) }
     ensures only { 0 < word → Due space.now base pass → DueIn space.now base result }
     ensures reads { IfSome result (λ r. reads.new + 2 + may_read r ≤ reads.old + may_read pass) }
     ensures most { reads.new + 2 ≤ reads.old + may_read pass }
@@ -158,9 +161,11 @@ fn check_below<S: Space, L: Ledger, const DEEP: bool>(
     requires message { IsMessage (space.now ∷ []) }
     requires object { HasObject space.now pass }
     requires later { pass.from < below.from }
+    requires deeper { below.depth < pass.depth }
     requires opened { IsOpen space.now below }
     requires named { Opens space.now base pass below }
     ensures found { IfSome result (λ r. GoesOn space.now base DEEP pass least.old r least.new) }
+    ensures low { IfSome result (λ r. r.depth ≤ pass.depth) }
     ensures only { Due space.now base below → Due space.now base pass → DueIn space.now base result }
     ensures reads { IfSome result (λ r.
         reads.new + 7 + may_read r ≤ reads.old + may_read below + 7 * (pass.end - pass.from)) }
@@ -176,32 +181,32 @@ fn check_below<S: Space, L: Ledger, const DEEP: bool>(
     }
 }
 
-/// Tests the slots `below` and everything below them by [`check_object`]. If there are no slots, nothing is called, and
-/// no copy of `below` is written to the stack.
+/// Tests the slots of `pass` and everything below them by [`check_object`]. If there are no slots, nothing is called,
+/// and no copy of `pass` is written to the stack.
 #[cycle(pass)]
 #[inline(always)]
 fn check_first<S: Space, L: Ledger, const DEEP: bool>(
     space: &CountedWords<'_, S, L>,
     base: u32,
-    below: Pass,
+    pass: Pass,
     least: &mut u32,
     reads: &mut Reads<L>,
 ) -> Option<Progress>
     requires message { IsMessage (space.now ∷ []) }
-    requires opened { IsOpen space.now below }
-    ensures { Passes (Finds space.now base DEEP below least.old) (Due space.now base below) (may_read below) result
+    requires opened { IsOpen space.now pass }
+    ensures { Passes (Finds space.now base DEEP pass least.old) (Due space.now base pass) (may_read pass) result
         least.new reads.old reads.new }
 {
-    if below.from == below.end {
-        return Some(below.here());
+    if pass.from == pass.end {
+        return Some(pass.here());
     }
     let object = Pass {
-        from: below.from,
-        end: below.end,
-        depth: below.depth,
-        next: below.next,
-        left: below.left,
-        visits: below.visits,
+        from: pass.from,
+        end: pass.end,
+        depth: pass.depth,
+        next: pass.next,
+        left: pass.left,
+        visits: pass.visits,
     };
     check_object::<S, L, DEEP>(space.again(), base, object, least, reads)
 }
@@ -222,6 +227,7 @@ fn check_list<S: Space, L: Ledger, const DEEP: bool>(
     requires word { word ≡ slice_index space.now pass.from }
     requires near { word % 2 ^ 32 ≡ 4 * (pass.next - pass.from - 1) + 1 }
     ensures found { IfSome result (λ r. GoesOn space.now base DEEP pass least.old r least.new) }
+    ensures low { IfSome result (λ r. r.depth ≤ pass.depth) }
     ensures only { Due space.now base pass → DueIn space.now base result }
     ensures reads { IfSome result (λ r. reads.new + 2 + may_read r ≤ reads.old + may_read pass) }
     ensures most { reads.new + 2 ≤ reads.old + may_read pass }

@@ -100,6 +100,7 @@ returns g c =
             (omega arith) (omega arith) (omega arith) (omega arith) five.2 five.4 five.0 five.1 (omega arith)
             (omega arith) gv),
       );
+      deeper = let deep = o.deep in omega arith;
       only = λ f.
           let y = tagged all c.args.base p c.args.span x g o small short c.requires.list.word c.word_at.ensures.word
           c.tag_of-tag.ensures f in

@@ -32,6 +32,7 @@ returns-in-Some g c =
         (λ deep. finds-links all c.args.base deep p o small n g (omega arith) c.requires.list.few c.requires.list.word
             gn gl gv),
       );
+      deeper = let deep = o.deep in omega arith;
       only = λ f.
           let k = due-links all c.args.base p.from p.next p.depth p.left f small (omega arith) o.deep n
           c.requires.list.few c.requires.list.word in

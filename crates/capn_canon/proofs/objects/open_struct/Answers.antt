@@ -84,6 +84,7 @@ returns-in-Some g c =
         (λ deep. finds-struct all c.args.base deep p o (omega arith) a b g (omega arith) (omega arith) (omega arith)
             some word (c.if-not-is_kept.ensures.same.0 refl) (c.if-not-is_kept-2.ensures.same.0 refl) gn gl gv),
       );
+      deeper = let deep = o.deep in omega arith;
       only = λ nz h.
           let t = tagged all c.args.base p c.args.word c.tag_of-tag.result o c.requires.message c.requires.word
           c.requires.near nz c.tag_of-tag.ensures h in

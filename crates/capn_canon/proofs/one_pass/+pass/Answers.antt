@@ -78,7 +78,8 @@ check_slot-returns-then-word-eq0 g t c =
     (c.behind.ensures ∙ ap (behind p) c.here.ensures) in
     let read = c.word_at-word.ensures.reads in
     let some = c.requires.some in
-    record { found = go.found; only = go.only; reads = omega arith; most = omega arith }
+    let depth = ap (λ (x : Pass). x.depth) c.behind.ensures in
+    record { found = go.found; low = omega (arith, depth); only = go.only; reads = omega arith; most = omega arith }
 
 pub check_slot-returns-then-pass-eq0-clause-only : goal.check_slot-returns-then-pass-eq0-clause-only
 check_slot-returns-then-pass-eq0-clause-only g t c h =
@@ -109,7 +110,8 @@ check_slot-returns-in-Some g t c =
     let left = behind-reads p c.in-Some.progress c.behind-in-Some.result s c.behind-in-Some.ensures in
     let read = c.word_at-word.ensures.reads in
     let pays = h.1 in
-    record { found = go.found; only = go.only; reads = omega arith; most = omega arith }
+    let depth = ap (λ (x : Pass). x.depth) c.behind-in-Some.ensures in
+    record { found = go.found; low = omega (arith, depth); only = go.only; reads = omega arith; most = omega arith }
 
 pub check_slot-returns-in-None-clause-only : goal.check_slot-returns-in-None-clause-only
 check_slot-returns-in-None-clause-only g t c h =
@@ -166,6 +168,7 @@ check_struct-returns-in-Some g t c =
     let most_reads = c.check_below.ensures.most in
     record {
       found = c.check_below.ensures.found;
+      low = c.check_below.ensures.low;
       only = λ nz h. c.check_below.ensures.only
           (c.in-Some.ensures.only nz
           (due-first c.args.space.now c.args.base c.args.pass c.requires.object.some c.requires.object.opened h)) h;
@@ -184,6 +187,7 @@ check_below-returns-then-pass g t c = record {
         c.if-pass.true c.requires.object.opened q low
         (c.requires.named (not (nat_eq g.row.DEEP 0)) c.args.least.now c.lower.new.least q low c.lower.ensures f)),
   );
+  low = let deeper = c.requires.deeper in omega arith;
   only = λ d h. d;
   reads = let some = c.requires.object.some in omega arith;
   most = omega arith;
@@ -205,13 +209,20 @@ check_below-returns-in-Some g t c =
     c.behind.result c.behind.ensures in
     let left = behind-reads c.args.pass q c.behind.result o.some c.behind.ensures in
     let first_reads = c.in-Some.ensures.reads in
-    record { found = go.found; only = λ d. go.only; reads = omega arith; most = omega arith }
+    let depth = ap (λ (x : Pass). x.depth) c.behind.ensures in
+    record {
+      found = go.found;
+      low = omega (arith, depth);
+      only = λ d. go.only;
+      reads = omega arith;
+      most = omega arith;
+    }
 
-pub check_first-returns-then-below : goal.check_first-returns-then-below
-check_first-returns-then-below g t c =
-    let b = c.args.below in
+pub check_first-returns-then-pass : goal.check_first-returns-then-pass
+check_first-returns-then-pass g t c =
+    let b = c.args.pass in
     let deep = not (nat_eq g.row.DEEP 0) in
-    let le = c.if-below.true in
+    let le = c.if-pass.true in
     let found = finds-none c.args.space.now c.args.base deep b c.args.least.now (omega arith) c.requires.opened in
     record {
       found = subst (λ (q : Progress). Finds c.args.space.now c.args.base deep b c.args.least.now q c.args.least.now)
@@ -233,6 +244,7 @@ check_list-returns-in-Some g t c =
     let most_reads = c.check_below.ensures.most in
     record {
       found = c.check_below.ensures.found;
+      low = c.check_below.ensures.low;
       only = λ h. c.check_below.ensures.only
           (c.in-Some.ensures.only
           (due-first c.args.space.now c.args.base c.args.pass c.requires.object.some c.requires.object.opened h)) h;
@@ -253,7 +265,8 @@ check_list-returns-in-Some-check_composite g t c =
     let some = o.some in
     let left = behind-reads c.args.pass c.in-Some-check_composite.progress c.behind.result o.some c.behind.ensures in
     let list_reads = c.in-Some-check_composite.ensures.reads in
-    record { found = go.found; only = go.only; reads = omega arith; most = omega arith }
+    let depth = ap (λ (x : Pass). x.depth) c.behind.ensures in
+    record { found = go.found; low = omega (arith, depth); only = go.only; reads = omega arith; most = omega arith }
 
 pub check_list-returns-in-Some-check_numbers : goal.check_list-returns-in-Some-check_numbers
 check_list-returns-in-Some-check_numbers g t c =
@@ -270,7 +283,8 @@ check_list-returns-in-Some-check_numbers g t c =
     c.behind-in-Some-check_numbers.ensures in
     let list_reads = c.in-Some-check_numbers.ensures.reads in
     let pays = c.in-Some-check_numbers.ensures.pays in
-    record { found = go.found; only = go.only; reads = omega arith; most = omega arith }
+    let depth = ap (λ (x : Pass). x.depth) c.behind-in-Some-check_numbers.ensures in
+    record { found = go.found; low = omega (arith, depth); only = go.only; reads = omega arith; most = omega arith }
 
 pub check_list-returns-in-None-check_composite-clause-only : goal.check_list-returns-in-None-check_composite-clause-only
 check_list-returns-in-None-check_composite-clause-only g t c h =

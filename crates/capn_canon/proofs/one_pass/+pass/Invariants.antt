@@ -6,31 +6,31 @@ use Rattle.capn_canon.specs.inner.PassReads.{may_read}
 use Rattle.capn_canon.proofs.one_pass.+pass.Given as goal
 
 abbrev pub decreases-check_below : goal.decreases-check_below
-decreases-check_below g l = 6 * (length l.space.now - l.pass.from)
+decreases-check_below g l = 6 * l.pass.depth
 
 abbrev pub decreases-check_composite : goal.decreases-check_composite
-decreases-check_composite g l = 6 * (length l.space.now - l.pass.from)
+decreases-check_composite g l = 6 * l.pass.depth
 
 abbrev pub decreases-check_first : goal.decreases-check_first
-decreases-check_first g l = 6 * (length l.space.now - l.below.from) + 5
+decreases-check_first g l = 6 * l.pass.depth + 5
 
 abbrev pub decreases-check_list : goal.decreases-check_list
-decreases-check_list g l = 6 * (length l.space.now - l.pass.from) + 1
+decreases-check_list g l = 6 * l.pass.depth + 1
 
 abbrev pub decreases-check_object : goal.decreases-check_object
-decreases-check_object g l = 6 * (length l.space - l.pass.from) + 4
+decreases-check_object g l = 6 * l.pass.depth + 4
 
 abbrev pub decreases-check_rows : goal.decreases-check_rows
-decreases-check_rows g l = 6 * (length l.space - l.pass.from) + 4
+decreases-check_rows g l = 6 * l.pass.depth + 4
 
 abbrev pub decreases-check_slot : goal.decreases-check_slot
-decreases-check_slot g l = 6 * (length l.space.now - l.pass.from) + 2
+decreases-check_slot g l = 6 * l.pass.depth + 2
 
 abbrev pub decreases-check_slots : goal.decreases-check_slots
-decreases-check_slots g l = 6 * (length l.space.now - l.pass.from) + 3
+decreases-check_slots g l = 6 * l.pass.depth + 3
 
 abbrev pub decreases-check_struct : goal.decreases-check_struct
-decreases-check_struct g l = 6 * (length l.space.now - l.pass.from) + 1
+decreases-check_struct g l = 6 * l.pass.depth + 1
 
 abbrev pub invariant-check_rows-loop-i : goal.invariant-check_rows-loop-i
 invariant-check_rows-loop-i g l = record {
@@ -52,6 +52,7 @@ invariant-check_rows-loop-i g l = record {
 abbrev pub invariant-check_slots-loop-left : goal.invariant-check_slots-loop-left
 invariant-check_slots-loop-left g l = record {
   later : l.fn.pass.from ≤ l.left.from;
+  low : l.left.depth ≤ l.fn.pass.depth;
   opened : IsOpen l.space l.left;
   leads : Leads l.space l.base (not (nat_eq g.row.DEEP 0)) l.fn.pass l.initial.least l.left l.least;
   due : Due l.space l.base l.fn.pass → Due l.space l.base l.left;
