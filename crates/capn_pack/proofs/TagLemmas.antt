@@ -1,6 +1,6 @@
--- Lemmas for `tag` and `eight_tags` in `signs.rt`: the tag of a word is the mask of its lanes.
+-- Lemmas for the tags in `signs.rt`: the tag of a word is the mask of its lanes.
 use Rattle.std.proofs.Common.{◌≡◌, ℕ, zero, suc, ◌+◌, ◌*◌, ◌%◌, ◌^◌, ◌<◌, ◌≤◌, Bool, true, false, not, cond, eqb, List}
-use Rattle.std.proofs.Common.{[], ◌∷◌, map, length, take, drop, refl, ap, ◌∙◌, arith, w8, replicate}
+use Rattle.std.proofs.Common.{[], ◌∷◌, map, length, take, drop, refl, ap, ◌∙◌, arith, w8, replicate, length-take}
 use Rattle.std.proofs.Math.Nat.{two-pow-succ}
 use Rattle.std.proofs.lemmas.Simd.{bitmask_splat, mask_l-lt}
 use Rattle.std.proofs.lemmas.List.{length-map}
@@ -22,6 +22,11 @@ mask_is (x ∷ xs) = λ i. turned (eqb x 0) i + 2 * mask_is xs i
 pub mask_tag : (xs : List ℕ) → length xs ≡ 8
     → mask_l (map (top 7) (zip2 (λ a b. cond (differs a b) 255 0) xs (replicate 8 0))) % 2 ^ 64 ≡ tag_of xs
 mask_tag xs long = bitmask_splat w8 differs xs 8 0 long (omega arith) ∙ mask_is xs
+
+-- the mask of the nonzero lanes of two words `xs` is the tag of their 16 bytes
+pub mask_two : (xs : List ℕ) → length xs ≡ 16
+    → mask_l (map (top 7) (zip2 (λ a b. cond (differs a b) 255 0) xs (replicate 16 0))) % 2 ^ 64 ≡ tag_of xs
+mask_two xs long = bitmask_splat w8 differs xs 16 0 long (omega arith) ∙ mask_is xs
 
 -- the mask of the nonzero lanes of eight words `xs` is the tag of their 64 bytes
 pub mask_eight : (xs : List ℕ) → length xs ≡ 64
@@ -45,3 +50,9 @@ tag_split (suc n) (x ∷ xs) le =
     let twice : 2 ^ suc n * tag_of (drop n xs) ≡ 2 * (2 ^ n * tag_of (drop n xs)) =
     ap (λ k. k * tag_of (drop n xs)) (two-pow-succ n) ∙ twice_of (2 ^ n) (tag_of (drop n xs)) in
     omega (arith, rest, twice)
+
+-- the tag of the first of two words
+pub tag_first : (xs : List ℕ) → length xs ≡ 16 → tag_of xs % 256 ≡ tag_of (take 8 xs)
+tag_first xs long =
+    let first : length (take 8 xs) ≡ 8 = simp length-take (omega arith) in
+    omega (arith, tag_lt (take 8 xs) first, tag_split 8 xs (omega arith))

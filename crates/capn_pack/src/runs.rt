@@ -3,7 +3,7 @@ ghost use Rattle.std.specs.Prelude.{◌≡◌, ◌+◌, ◌*◌, ◌<◌, ◌≤
 ghost use Rattle.capn_pack.specs.Chosen.{IsDense};
 ghost use Rattle.capn_pack.specs.inner.Steps.{IsZeroRun, IsDenseRun};
 
-use crate::signs::{first_dense, first_zeros, tag};
+use crate::signs::{first_dense, first_tag, first_zeros, tag};
 
 /// Returns the word that begins at byte `at` of `bytes`.
 #[inline(always)]
@@ -14,6 +14,16 @@ pub(crate) fn word_at(bytes: &[u8], at: usize) -> [u8; 8]
     let mut word = [0; 8];
     word.copy_from_slice(&bytes[at..at + 8]);
     word
+}
+
+#[inline(always)]
+fn two_at(bytes: &[u8], at: usize) -> [u8; 16]
+    requires { at + 16 ≤ length bytes.now }
+    ensures { result ≡ take 16 (drop at bytes.now) }
+{
+    let mut words = [0; 16];
+    words.copy_from_slice(&bytes[at..at + 16]);
+    words
 }
 
 #[inline(always)]
@@ -123,10 +133,10 @@ pub(crate) fn raw_run(bytes: &[u8], start: usize) -> usize
     ensures run { IsDenseRun bytes.now start 16 result }
     ensures last { result < 16 → IsDense (take 8 (drop (start + 8 * result) bytes.now)) → ⊥ }
 {
-    if bytes.len() < start + 8 {
-        return 0;
+    if bytes.len() < start + 16 {
+        return few_dense(bytes, start);
     }
-    if tag(&word_at(bytes, start)).count_ones() < 7 {
+    if first_tag(&two_at(bytes, start)).count_ones() < 7 {
         return 0;
     }
     let first = raw_step(bytes, start);

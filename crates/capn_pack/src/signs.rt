@@ -18,6 +18,19 @@ pub(crate) fn tag(bytes: &[u8; 8]) -> u8
         .to_bitmask() as u8
 }
 
+/// Returns the tag of the first of the two words of `bytes`.
+///
+/// Both words are loaded as one vector of sixteen lanes, which a longer test of the same words can then use.
+#[inline(always)]
+pub(crate) fn first_tag(bytes: &[u8; 16]) -> u8
+    ensures { result ≡ tag_of (take 8 bytes.now) }
+{
+    let tags = u8x16::from_array(*bytes)
+        .simd_ne(u8x16::splat(0))
+        .to_bitmask();
+    (tags % 256) as u8
+}
+
 /// Returns the tags of the eight words of `bytes`. The tag of the first word is in the least significant bits.
 #[inline(always)]
 fn eight_tags(bytes: &[u8; 64]) -> u64
