@@ -8,6 +8,7 @@ use Rattle.capn_value.specs.Tree.{Tree}
 use Rattle.capn_walk.specs.Accepted.{IsValueOf, IsWalkRefused}
 use Rattle.capn_walk.specs.Limits.{Bounds}
 use Rattle.capn_walk.specs.declared.walk_answer.Stopped.{Stopped}
+use Rattle.capn_walk.proofs.shared.Plain.{plain-refusal}
 use Rattle.capn_canon.specs.declared.refusal.Refusal.{Refusal}
 use Rattle.capn_canon.specs.declared.refusal.Refusal.TheVariants as refusals
 use Rattle.capn_show.specs.Outgoing.{Outgoing, Adds}
@@ -62,7 +63,7 @@ module _ (m : List (List ℕ)) (limits : Bounds) (of : Tree → List ℕ) (line 
   part_line p q r (Ok u) shown (added, short) =
       (shown.value, shown.is, both p q r (of shown.value) line shown.text added, short)
   part_line p q r (Err faults.Memory) shown added =
-      inr (shown.value, shown.is, then-broken p q r broken.Memory (of shown.value) line shown.text added)
+      (shown.value, shown.is, then-broken p q r broken.Memory (of shown.value) line shown.text added)
   part_line p q r (Err faults.Io) shown added =
       (shown.value, shown.is, then-broken p q r broken.Io (of shown.value) line shown.text added)
   part_line p q r (Err (faults.Refused f)) shown added = absurd added
@@ -71,11 +72,9 @@ module _ (m : List (List ℕ)) (limits : Bounds) (of : Tree → List ℕ) (line 
 
   part_stop : (s : Stopped) (p q : Outgoing) (fault : ServeFault) → IsFaultOf (ends.Stopped s) fault
       → IsUnwritten m limits of (ends.Stopped s) p q → AddsPart m limits of line p q (stopped fault)
-  part_stop s p q fault (inl (memory, is)) (unmoved, why) =
-      subst (λ (f : ServeFault). AddsPart m limits of line p q (stopped f)) (sym is)
-      (inl (subst (λ (o : Outgoing). Adds p o []) (sym unmoved) (same p)))
-  part_stop s p q fault (inr (other, is)) (unmoved, inl memory) = absurd (other memory)
-  part_stop s p q fault (inr (other, is)) (unmoved, inr refusal) =
+  part_stop s p q fault (inl (memory, is)) (unmoved, refusal) =
+      absurd (plain-refusal m limits s.fault s.place s.paid s.visits refusal memory)
+  part_stop s p q fault (inr (other, is)) (unmoved, refusal) =
       subst (λ (f : ServeFault). AddsPart m limits of line p q (stopped f)) (sym is)
       ((s, refl, refusal), subst (λ (o : Outgoing). Adds p o []) (sym unmoved) (same p))
 
@@ -87,7 +86,7 @@ module _ (m : List (List ℕ)) (limits : Bounds) (of : Tree → List ℕ) (line 
       (begun.value, begun.is, broken-before p q broken.Io (of begun.value) line begun.text)
   part_fault ends.Memory p q fault is begun =
       subst (λ (f : ServeFault). AddsPart m limits of line p q (stopped f)) (sym is)
-      (inr (begun.value, begun.is, broken-before p q broken.Memory (of begun.value) line begun.text))
+      (begun.value, begun.is, broken-before p q broken.Memory (of begun.value) line begun.text)
 
 -- ---- one of two texts: with marks, or in a style
 
@@ -126,8 +125,7 @@ module _ {X : Type 0} (serves : X → Position → List ℕ → List (List ℕ) 
         → DoesService serves refuses s at frame m old new q.failed end s
     does_part (Ok u) fine (v, is, h, short) =
         ((of v ++ line, serve v is, adds (of v ++ line) h, h.failed ∙ fine), λ few. short)
-    does_part (Err faults.Memory) fine (inl h) = (inl (adds [] h), h.failed ∙ fine)
-    does_part (Err faults.Memory) fine (inr (v, is, (count, h))) =
+    does_part (Err faults.Memory) fine (v, is, (count, h)) =
         (inr (of v ++ line, s, count, serve v is, adds _ h), h.failed ∙ fine)
     does_part (Err faults.Io) fine (v, is, (count, wrote, broke)) =
         ((of v ++ line, s, count, serve v is, wrote), broke)

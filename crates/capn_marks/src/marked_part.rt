@@ -45,8 +45,9 @@ pub fn show_marked<S: Space, W: Write, A: Allocator + Copy>(
     ensures shown { OnOk result (IsWritten (S.message message.now) limits
         (marked_at (S.message message.now) marks path.now)
         (outgoing W.contents writer.old text.old.items) (outgoing W.contents writer.new text.new.items)) }
-    // If `result` is `Stopped`, its field says why the survey stopped, and nothing was added. If `result` is `Io` or
-    // `Memory`, the message is accepted, and the text breaks off: the writer failed, or an allocation was refused.
+    // If `result` is `Stopped`, the message is refused, its field is the stop of the walk, and nothing was added. If
+    // `result` is `Io` or `Memory`, the message is accepted, and the text breaks off: the writer failed, or an
+    // allocation was refused.
     ensures refused { IfErr result (λ fault. IsUnwritten (S.message message.now) limits
         (marked_at (S.message message.now) marks path.now) fault
         (outgoing W.contents writer.old text.old.items) (outgoing W.contents writer.new text.new.items)) }

@@ -4,7 +4,7 @@ use Rattle.std.proofs.Common.{refl, subst, sym, ap, ◌∙◌, arith, Err}
 use Rattle.std.proofs.Math.Seq.{drop-cons}
 use Rattle.std.proofs.Math.ListN.{drop_of_length-le}
 use Rattle.capn_words.specs.declared.pointer.Width.{Width}
-use Rattle.capn_words.specs.declared.pointer.Width.TheVariants.{Link, Rows}
+use Rattle.capn_words.specs.declared.pointer.Width.TheVariants.{Link}
 use Rattle.capn_words.specs.declared.space.Place.{Place}
 use Rattle.capn_value.specs.Tree.{Tree, node, Trees, no_trees, tree, Bodies, no_bodies, body, count, count_rows}
 use Rattle.capn_value.specs.Tree.{tree_at}

@@ -1,8 +1,7 @@
 -- The outcome of a call that adds the text of a message's value. `text_of` gives the text of a value. The output is `p`
 -- before the call and `q` after it. (Our own.)
-use Rattle.std.specs.Prelude.{◌≡◌, ◌⊎◌, ℕ, List}
+use Rattle.std.specs.Prelude.{◌≡◌, ℕ, List}
 use Rattle.capn_value.specs.Tree.{Tree}
-use Rattle.capn_target.specs.declared.target.Fault.TheVariants as faults
 use Rattle.capn_walk.specs.Accepted.{IsValueOf, IsWalkRefused}
 use Rattle.capn_walk.specs.Limits.{Bounds}
 use Rattle.capn_show.specs.Outgoing.{Outgoing, Adds, BreaksOff}
@@ -24,10 +23,9 @@ module _ (m : List (List ℕ)) (limits : Bounds) (text_of : Tree → List ℕ) w
     pub is : IsValueOf m limits value
     pub text : BreaksOff p q e (text_of value)
 
-  -- For `Stopped s`, the survey of the message stopped as `s` says, and nothing was added. For `Io` and `Memory`, the
-  -- message is accepted, and the text of its value breaks off.
+  -- For `Stopped s`, the message is refused, the walk over it stops as `s` says, and nothing was added. For `Io` and
+  -- `Memory`, the message is accepted, and the text of its value breaks off.
   abbrev pub IsUnwritten : ShowFault → Outgoing → Outgoing → Type 0
-  IsUnwritten (ends.Stopped s) p q = (q ≡ p)
-      × ((s.fault ≡ faults.Memory) ⊎ IsWalkRefused m limits s.fault s.place s.paid s.visits)
+  IsUnwritten (ends.Stopped s) p q = (q ≡ p) × IsWalkRefused m limits s.fault s.place s.paid s.visits
   IsUnwritten ends.Io p q = IsBegun p q broken.Io
   IsUnwritten ends.Memory p q = IsBegun p q broken.Memory

@@ -29,9 +29,9 @@ pub fn show_message<S: Space, W: Write, A: Allocator, B: Allocator + Copy>(
     // If `result` is `Ok`, the message is accepted, and the text of its value was added.
     ensures shown { OnOk result (IsWritten (S.message space.now) limits show_text
         (outgoing W.contents writer.old text.old.items) (outgoing W.contents writer.new text.new.items)) }
-    // If `result` is `Stopped`, its field says why the survey stopped, and nothing was added. If `result` is `Io` or
-    // `Memory`, the message is accepted, and its text breaks off: the writer failed, or an allocation for `text` was
-    // refused.
+    // If `result` is `Stopped`, the message is refused, its field is the stop of the walk, and nothing was added. If
+    // `result` is `Io` or `Memory`, the message is accepted, and its text breaks off: the writer failed, or an
+    // allocation for `text` was refused.
     ensures refused { IfErr result (λ fault. IsUnwritten (S.message space.now) limits show_text fault
         (outgoing W.contents writer.old text.old.items) (outgoing W.contents writer.new text.new.items)) }
 {

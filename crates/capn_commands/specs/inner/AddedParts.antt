@@ -22,15 +22,13 @@ AddsEnd end old new (Err serve_faults.Io) = BreaksOff old new broken.Io end
 AddsEnd end old new (Err (serve_faults.Refused r)) = ⊥
 
 -- After `Ok`, `of v ++ end` was added for the value `v` of `message`. After `Memory` or `Io`, the output breaks off in
--- these bytes, or for `Memory` nothing was added. After `Refused`, the walk of `message` is refused, and nothing was
--- added.
+-- these bytes. After `Refused`, the walk of `message` is refused, and nothing was added.
 abbrev pub AddsPart : List (List ℕ) → Bounds → (Tree → List ℕ) → List ℕ → Outgoing → Outgoing
     → Result (Unit {0}) ServeFault → Type 0
 AddsPart message limits of end old new (Ok u) =
     (v : Tree) × IsValueOf message limits v × Adds old new (of v ++ end) × (length new.kept < 65536)
 AddsPart message limits of end old new (Err serve_faults.Memory) =
-    Adds old new []
-    ⊎ ((v : Tree) × IsValueOf message limits v × BreaksOff old new broken.Memory (of v ++ end))
+    (v : Tree) × IsValueOf message limits v × BreaksOff old new broken.Memory (of v ++ end)
 AddsPart message limits of end old new (Err serve_faults.Io) =
     (v : Tree) × IsValueOf message limits v × BreaksOff old new broken.Io (of v ++ end)
 AddsPart message limits of end old new (Err (serve_faults.Refused r)) =

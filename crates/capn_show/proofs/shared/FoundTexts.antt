@@ -1,7 +1,7 @@
 -- The height of the value of a target, and the values in its slots, elements and rows. (For the cycle `slots`.)
 use Rattle.std.proofs.Common.{◌≡◌, ℕ, ◌+◌, ◌-◌, ◌≤◌, List, subst, ap, ◌∙◌, arith}
 use Rattle.capn_words.specs.declared.pointer.Width.{Width}
-use Rattle.capn_words.specs.declared.pointer.Width.TheVariants.{Link, Rows}
+use Rattle.capn_words.specs.declared.pointer.Width.TheVariants.{Link}
 use Rattle.capn_value.specs.Tree.{Tree, nil, node, voids, numbers, links, rows, cap}
 use Rattle.capn_value.specs.Cost.{height}
 use Rattle.capn_target.specs.declared.target.Target.{Target}
