@@ -64,6 +64,7 @@ fn one_segment<'b>(form: Form, bytes: &'b [u8], limits: Limits) -> Result<Option
 }
 
 /// Reads the frame `bytes`, of any number of segments, and does the `task` on its message.
+#[inline(never)]
 fn of_frame<T: MessageTask<A>, A: Allocator + Copy>(
     alloc: A,
     task: &mut T,
@@ -80,6 +81,7 @@ fn of_frame<T: MessageTask<A>, A: Allocator + Copy>(
 /// Does the `task` on the message that `bytes` encode in `form`, which is not `Packed`. If the message has one segment,
 /// only its words are read, which is faster. For messages of one segment, the code has only one call of the task, so
 /// that the compiler inlines the call.
+#[inline(always)]
 fn of_plain<T: MessageTask<A>, A: Allocator + Copy>(
     alloc: A,
     task: &mut T,
@@ -97,6 +99,7 @@ fn of_plain<T: MessageTask<A>, A: Allocator + Copy>(
 }
 
 /// Unpacks the packed text `bytes` to a frame, and does the `task` on the message in the frame.
+#[inline(never)]
 fn of_packed<T: MessageTask<A>, A: Allocator + Copy>(
     alloc: A,
     task: &mut T,
@@ -114,6 +117,7 @@ fn of_packed<T: MessageTask<A>, A: Allocator + Copy>(
 /// If the reading fails, for a fault of the bytes or with `Memory`, the task is not run, and `task` stays as it was.
 /// All other refusals come from the task. Reading takes memory from `alloc` only to store the segments' ends, if there
 /// are more than 64 segments, and the unpacked words. (Our own.)
+#[inline(always)]
 pub fn run_task<T: MessageTask<A>, A: Allocator + Copy>(
     alloc: A,
     task: &mut T,

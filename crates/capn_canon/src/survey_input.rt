@@ -44,6 +44,7 @@ impl InputTask for Survey {
 ///
 /// The refusals are as for [`crate::canonicalise`], but never `Capability`. `Memory` is returned only if an allocation
 /// on `alloc` was refused: for the segments' ends, if there are more than 64 segments, or for the unpacked words.
+#[inline(always)]
 pub fn survey_bytes<A: Allocator + Copy>(
     alloc: A,
     form: Form,
