@@ -1,4 +1,6 @@
 pub mod Agreed
+pub mod AgreedDigest
+pub mod AgreedFrames
 pub mod Comparisons
 pub mod Counted
 pub mod Decided
