@@ -3,3 +3,4 @@ pub mod Told
 pub mod Lent
 pub mod Reported
 pub mod RunHeld
+pub mod Written

@@ -19,29 +19,30 @@ use crate::canonical_fill::fill;
 use capn_abi::{
     BAD_FORM, CapnLimits, CapnReport, NO_ROOM, answer_of, form_of, limits_of, refuse, report_at,
 };
-use capn_canon::{Form, Refusal, survey_bytes};
+use capn_canon::{AskedInput, Form, Refusal, survey_bytes_of};
 use capn_walk::Limits;
 use std::alloc::Global;
 
 /// Surveys the message that `bytes` encode in `form`. Reports the refusal, or the status `NO_ROOM` with a length that
-/// is enough for the canonical bytes.
-fn survey_length(
+/// is enough for the canonical bytes. The clause `work` bounds how often the message is read.
+fn survey_length<B: AskedInput>(
     alloc: Global,
     form: Form,
-    bytes: &[u8],
+    bytes: B,
     limits: Limits,
     report: &mut CapnReport,
 ) -> u32
+    requires work { B.allows bytes (14 * (limits.budget + 1) + 1 + 1) }
     ensures possible { (result ≡ 1) ⊎ (8 ≤ result) }
-    ensures found { result ≡ 1 → (text : List ℕ) × Answers form bytes.now limits text report.new.paid
+    ensures found { result ≡ 1 → (text : List ℕ) × Answers form (B.bytes bytes) limits text report.new.paid
         × (length text ≤ report.new.length) }
-    ensures only { (v : Value) → Denotes form bytes.now limits v → first_cap v ≡ None
+    ensures only { (v : Value) → Denotes form (B.bytes bytes) limits v → first_cap v ≡ None
         → (result ≡ 8) ⊎ ((result ≡ 1) × (length (canon v) ≤ report.new.length)) }
     ensures rest { result ≡ 1 → report.new ≡ answered (8 * (report.new.paid + 1)) report.new.paid 0 }
-    ensures reported { IsReported (IsRefused form bytes.now limits) (MayNeedMemory form bytes.now limits)
+    ensures reported { IsReported (IsRefused form (B.bytes bytes) limits) (MayNeedMemory form (B.bytes bytes) limits)
         limits.budget result report.new }
 {
-    match survey_bytes(alloc, form, bytes, limits) {
+    match survey_bytes_of(alloc, form, bytes, limits) {
         Ok(surveyed) => match surveyed.capability {
             Some(index) => refuse(Refusal::Capability(index), report),
             None => {

@@ -11,6 +11,7 @@ ghost use Rattle.capn_canon.specs.Refusal.{IsRefused};
 ghost use Rattle.capn_canon.specs.declared.refusal.Refusal.{Refusal as Refusals};
 ghost use Rattle.capn_scratch.specs.Laws.{most_scratch};
 ghost use Rattle.capn_scratch.specs.Needs.{HasScratch};
+ghost use Rattle.capn_scratch.specs.Work.{work_of_bytes};
 ghost use Rattle.capn_abi.specs.Calls.{IsForm, form_named, GiveLimits, IsTariff, bounds_of, Delivers};
 ghost use Rattle.capn_abi.specs.StatusCodes.{Reports, answered, at_number};
 ghost use Rattle.capn_c.specs.Lent.{LacksScratch, is_lent_status};
@@ -24,7 +25,7 @@ use capn_abi::{
 use capn_canon::laws::denotation;
 use capn_canon::{CanonicalLength, Form, Refusal};
 use capn_scratch::laws::{decision, enough};
-use capn_scratch::{FormRefusal, canonical_into_form};
+use capn_scratch::{AskedBytes, FormRefusal, canonical_into_form_of};
 use capn_walk::Limits;
 
 /// The status if the scratch has too few words.
@@ -65,16 +66,19 @@ pub(crate) fn tell(written: Result<CanonicalLength, FormRefusal>, report: &mut C
     }
 }
 
-/// Writes to `out` the canonical bytes of the message that `bytes` encode in `form`, and reports the result.
-fn write_lent(
+/// Writes to `out` the canonical bytes of the message that `bytes` encode in `form`, and reports the result. The clause
+/// `work` bounds the steps from the bytes to the canonical bytes.
+fn write_lent<B: AskedBytes>(
     form: Form,
-    bytes: &[u8],
+    bytes: B,
     limits: Limits,
     scratch: &mut [[u8; 8]],
     out: &mut [u8],
     report: &mut CapnReport,
 ) -> u32
-    ensures { IsLent form bytes.now limits (length scratch.old) out.old out.new result report.new }
+    requires work { B.allows bytes (work_of_bytes (length (B.bytes bytes)) (length scratch.old)
+        + 54 * (limits.budget + 1) + 1) }
+    ensures { IsLent form (B.bytes bytes) limits (length scratch.old) out.old out.new result report.new }
 {
     // The proof of the contract needs the laws of canonical bytes, and the ranges that limits promise.
     decision();
@@ -83,7 +87,7 @@ fn write_lent(
     let _words = limits.message_words();
     let _budget = limits.budget();
     let _depth = limits.depth();
-    let written = canonical_into_form(form, bytes, limits, scratch, out);
+    let written = canonical_into_form_of(form, bytes, limits, scratch, out);
     tell(written, report)
 }
 

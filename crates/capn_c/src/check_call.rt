@@ -1,6 +1,6 @@
 //! The call `capn_check`, which tests whether a message in any form is accepted within limits.
 
-ghost use Rattle.std.specs.Prelude.{IsTrue, ◌≡◌, ◌⊎◌, ◌↔◌, ◌≤◌};
+ghost use Rattle.std.specs.Prelude.{IsTrue, ◌≡◌, ◌⊎◌, ◌↔◌, ◌≤◌, ◌+◌, ◌*◌};
 ghost use Rattle.capn_value.specs.Tree.{Tree as Value};
 ghost use Rattle.capn_walk.specs.Accepted.{IsBounded};
 ghost use Rattle.capn_walk.specs.declared.survey_answer.Surveyed.{Surveyed as Survey};
@@ -16,17 +16,25 @@ ghost use Rattle.capn_c.specs.inner.Reported.{IsDoneIn};
 use capn_abi::{
     BAD_FORM, CapnLimits, CapnReport, DONE, answer_of, form_of, limits_of, refuse, report_at,
 };
-use capn_canon::{Form, survey_bytes};
+use capn_canon::{AskedInput, Form, survey_bytes_of};
 use capn_walk::Limits;
 use std::alloc::Global;
 
-/// Surveys the message that `bytes` encode in `form`, and reports the result.
-fn check(alloc: Global, form: Form, bytes: &[u8], limits: Limits, report: &mut CapnReport) -> u32
-    ensures { IsDoneIn form bytes.now limits
-        ((s : Survey) × Surveys form bytes.now limits s × (report.new ≡ answered 0 s.paid s.visits))
-        (MayNeedMemory form bytes.now limits) result report.new }
+/// Surveys the message that `bytes` encode in `form`, and reports the result. The clause `work` bounds how often the
+/// message is read.
+fn check<B: AskedInput>(
+    alloc: Global,
+    form: Form,
+    bytes: B,
+    limits: Limits,
+    report: &mut CapnReport,
+) -> u32
+    requires work { B.allows bytes (14 * (limits.budget + 1) + 1 + 1) }
+    ensures { IsDoneIn form (B.bytes bytes) limits
+        ((s : Survey) × Surveys form (B.bytes bytes) limits s × (report.new ≡ answered 0 s.paid s.visits))
+        (MayNeedMemory form (B.bytes bytes) limits) result report.new }
 {
-    match survey_bytes(alloc, form, bytes, limits) {
+    match survey_bytes_of(alloc, form, bytes, limits) {
         Ok(surveyed) => {
             *report = answer_of(0, surveyed.paid, surveyed.visits);
             DONE

@@ -1,6 +1,6 @@
 //! The call `capn_is_canonical`, which tests whether bare words are canonical.
 
-ghost use Rattle.std.specs.Prelude.{IsTrue, ◌≡◌, ◌≢◌, ◌⊎◌, ◌↔◌, ◌≤◌, None, true, false};
+ghost use Rattle.std.specs.Prelude.{IsTrue, ◌≡◌, ◌≢◌, ◌⊎◌, ◌↔◌, ◌≤◌, ◌+◌, ◌*◌, None, true, false};
 ghost use Rattle.capn_value.specs.Tree.{Tree as Value};
 ghost use Rattle.capn_value.specs.FirstCap.{first_cap};
 ghost use Rattle.capn_walk.specs.Accepted.{IsBounded};
@@ -15,22 +15,24 @@ ghost use Rattle.capn_abi.specs.StatusCodes.{Reports, at_number, is_status};
 ghost use Rattle.capn_c.specs.inner.Reported.{IsReported};
 
 use capn_abi::{CapnLimits, CapnReport, DONE, NOT_CANONICAL, limits_of, refuse, report_at};
-use capn_canon::is_canonical;
+use capn_canon::{AskedInput, are_canonical_of};
 use capn_walk::Limits;
 use std::alloc::Global;
 
-/// Tests whether `bytes` are the canonical bytes of their value, and reports the result.
-fn test(alloc: Global, bytes: &[u8], limits: Limits, report: &mut CapnReport) -> u32
+/// Tests whether `bytes` are the canonical bytes of their value, and reports the result. The clause `work` bounds how
+/// often the message is read.
+fn test<B: AskedInput>(bytes: B, limits: Limits, report: &mut CapnReport) -> u32
+    requires work { B.allows bytes (24 * (limits.budget + 1) + 1 + 1) }
     ensures possible { (result ≡ 0) ⊎ (result ≡ 5) ⊎ (8 ≤ result) }
-    ensures yes { result ≡ 0 → SaysCanonical bytes.now limits true }
-    ensures no { result ≡ 5 → SaysCanonical bytes.now limits false }
-    ensures only { (v : Value) → Denotes forms.Bare bytes.now limits v → first_cap v ≡ None
-        → (result ≡ 8) ⊎ ((result ≡ 0) × (canon v ≡ bytes.now)) ⊎ ((result ≡ 5) × (canon v ≢ bytes.now)) }
+    ensures yes { result ≡ 0 → SaysCanonical (B.bytes bytes) limits true }
+    ensures no { result ≡ 5 → SaysCanonical (B.bytes bytes) limits false }
+    ensures only { (v : Value) → Denotes forms.Bare (B.bytes bytes) limits v → first_cap v ≡ None
+        → (result ≡ 8) ⊎ ((result ≡ 0) × (canon v ≡ B.bytes bytes)) ⊎ ((result ≡ 5) × (canon v ≢ B.bytes bytes)) }
     ensures blank { result ≤ 5 → report.new ≡ at_number 0 }
-    ensures reported { IsReported (IsRefused forms.Bare bytes.now limits) ⊥ limits.budget result report.new }
+    ensures reported { IsReported (IsRefused forms.Bare (B.bytes bytes) limits) ⊥ limits.budget result report.new }
 {
     *report = report_at(0);
-    match is_canonical(alloc, bytes, limits) {
+    match are_canonical_of(bytes, limits) {
         Ok(true) => DONE,
         Ok(false) => NOT_CANONICAL,
         Err(refusal) => refuse(refusal, report),
@@ -43,7 +45,7 @@ fn test(alloc: Global, bytes: &[u8], limits: Limits, report: &mut CapnReport) ->
 /// limit or the tariff is out of its range. Otherwise it is the status of the refusal, but never 8.
 #[unsafe(no_mangle)]
 pub extern "C" fn capn_is_canonical(
-    alloc: Global,
+    _alloc: Global,
     bytes: &[u8],
     limits: &CapnLimits,
     report: &mut CapnReport,
@@ -77,7 +79,7 @@ pub extern "C" fn capn_is_canonical(
 {
     *report = report_at(0);
     match limits_of(limits) {
-        Ok(limits) => test(alloc, bytes, limits, report),
+        Ok(limits) => test(bytes, limits, report),
         Err(status) => status,
     }
 }

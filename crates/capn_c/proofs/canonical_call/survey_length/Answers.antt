@@ -9,7 +9,7 @@ use Rattle.capn_c.proofs.Reported.{refused_bytes}
 use Rattle.capn_c.proofs.canonical_call.survey_length.Goals as goal
 
 pub returns-in-None-clause-found : goal.returns-in-None-clause-found
-returns-in-None-clause-found c t =
+returns-in-None-clause-found g c t =
     let h = c.in-Ok.ensures.found in
     let v = h.survey.value in
     let told = c.answer_of.ensures in
@@ -32,11 +32,12 @@ returns-in-None-clause-found c t =
     )
 
 pub returns-in-Err-clause-only : goal.returns-in-Err-clause-only
-returns-in-Err-clause-only c v d n = inl (c.refuse-in-Err.ensures.status_is ∙ ap code (c.in-Err.ensures.only v d))
+returns-in-Err-clause-only g c v d n = inl (c.refuse-in-Err.ensures.status_is ∙ ap code (c.in-Err.ensures.only v d))
 
 pub returns-in-Err-clause-reported : goal.returns-in-Err-clause-reported
-returns-in-Err-clause-reported c =
+returns-in-Err-clause-reported g c =
+    let bs = g.B.AskedInput.bytes c.args.bytes in
     let h = c.in-Err.ensures in
-    refused_bytes c.args.form c.args.bytes.now c.args.limits c.refuse-in-Err.result c.refuse-in-Err.new.report
-    c.in-Err.refusal c.refuse-in-Err.ensures h.bounded (λ k. h.memory (ap Err k))
-    (unaccepted_refused c.args.form c.args.bytes.now c.args.limits c.in-Err.refusal h.refused)
+    refused_bytes c.args.form bs c.args.limits c.refuse-in-Err.result c.refuse-in-Err.new.report c.in-Err.refusal
+    c.refuse-in-Err.ensures h.bounded (λ k. h.memory (ap Err k))
+    (unaccepted_refused c.args.form bs c.args.limits c.in-Err.refusal h.refused)
