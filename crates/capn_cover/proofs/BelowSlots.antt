@@ -4,10 +4,14 @@ use Rattle.std.proofs.Common.{◌≡◌, ℕ, zero, suc, ◌+◌, ◌-◌, ◌*�
 use Rattle.std.proofs.Common.{Result, Ok, Err, refl, ap, ◌∙◌, arith}
 use Rattle.std.proofs.lemmas.Grind.{flat_map-append}
 use Rattle.std.proofs.lemmas.List.{append-nil}
+use Rattle.capn_words.specs.Message.{word_at}
+use Rattle.capn_words.specs.Pointers.{pointer_of}
 use Rattle.capn_words.specs.declared.space.Place.{Place}
+use Rattle.capn_words.specs.declared.pointer.Pointer.{Pointer}
+use Rattle.capn_words.specs.declared.pointer.Pointer.TheVariants.{Nil}
 use Rattle.capn_target.specs.declared.target.Target.{Target}
 use Rattle.capn_target.specs.declared.target.Fault.{Fault}
-use Rattle.capn_target.specs.Target.{target}
+use Rattle.capn_target.specs.Target.{pointer_in, target, target_of_pointer}
 use Rattle.capn_walk.specs.Visits.{places, row_places}
 use Rattle.capn_walk.specs.View.{slots_below}
 use Rattle.capn_walk.proofs.shared.Walks.{slot, places-split, places-add}
@@ -82,3 +86,12 @@ module _ (m : List (List ℕ)) (at : Place) where
   unfolding cover_below
   below-fault zero x e = refl
   below-fault (suc d) x e = ap (λ (r : Result Target Fault). covers m at r ++ cover_of m d (below r)) e
+
+  -- a null slot covers nothing
+  pub below-null : (d : ℕ) → word_at m at ≡ 0 → cover_below m d at ≡ []
+  unfolding cover_below target pointer_of
+  below-null zero e = refl
+  below-null (suc d) e =
+      let p : pointer_in m at.segment at.word ≡ Nil = ap pointer_of e in
+      ap (λ (q : Pointer). covers m at (target_of_pointer m at.segment at.word q)
+      ++ cover_of m d (below (target_of_pointer m at.segment at.word q))) p

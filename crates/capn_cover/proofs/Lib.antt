@@ -15,3 +15,4 @@ mod Whole
 mod WorkedCovers
 mod PlaceOf
 mod SameParts
+mod Knowing

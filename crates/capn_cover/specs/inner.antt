@@ -1,2 +1,3 @@
+pub mod Knows
 pub mod Laid
 pub mod Marked

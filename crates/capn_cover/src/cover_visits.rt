@@ -168,7 +168,8 @@ fn cover_object_slots<S: Space>(
     }
 }
 
-/// Makes the visits of `count` slots from `first` on, and of all slots below them.
+/// Makes the visits of `count` slots from `first` on, and of all slots below them. A visit of a null slot covers
+/// nothing.
 #[cycle(cover_slots)]
 fn cover_slots<S: Space>(
     space: &S,
@@ -192,6 +193,9 @@ fn cover_slots<S: Space>(
             segment: first.segment,
             word: first.word + i,
         };
+        if space.word(at) == 0 {
+            continue;
+        }
         cover_slot(space, before, cells, at, depth);
     }
 }

@@ -2,6 +2,7 @@
 
 ghost use Rattle.std.specs.Prelude.{◌≡◌};
 ghost use Rattle.capn_cover.specs.Covers.{is_read, unreached};
+ghost use Rattle.capn_cover.specs.inner.Knows.{is_of_object};
 
 /// The role of a word in the object or the landing pad to which the word belongs.
 #[derive(Clone, Copy, Debug, PartialEq, Eq)]
@@ -51,6 +52,23 @@ pub struct Covered {
 }
 
 impl Role {
+    /// Tests whether a word in this role is covered by an object, and not by the message itself or by a landing pad.
+    #[inline(always)]
+    pub(crate) fn is_of_object(self) -> bool
+        ensures { result ≡ is_of_object self }
+    {
+        match self {
+            Role::Root => false,
+            Role::Pad => false,
+            Role::Tag => true,
+            Role::Data => true,
+            Role::Slot => true,
+            Role::Numbers => true,
+            Role::Slack => true,
+            Role::Unreached => true,
+        }
+    }
+
     /// Tests whether a word in this role is read as a slot.
     pub(crate) fn is_read(self) -> bool
         ensures { result ≡ is_read self }

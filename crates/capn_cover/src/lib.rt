@@ -13,6 +13,7 @@
 //! places to numbers and back.
 #![tactic(auto)]
 
+mod comparison;
 mod cover_visits;
 mod covered;
 mod cut_words;

@@ -1,15 +1,18 @@
 //! The words of one object and of its landing pad, each of which one visit covers once.
 
-ghost use Rattle.std.specs.Prelude.{◌≡◌, ◌≤◌, ◌<◌, ◌+◌, ◌*◌, ◌^◌, length};
+ghost use Rattle.std.specs.Prelude.{◌≡◌, ◌≤◌, ◌<◌, ◌+◌, ◌*◌, ◌^◌, ◌||◌, length};
 ghost use Rattle.capn_words.specs.Message.{IsMessage, most_words};
 ghost use Rattle.capn_target.specs.Shapes.{extent, RowsFit};
+ghost use Rattle.capn_cover.specs.declared.covered.Role.TheVariants as roles;
 ghost use Rattle.capn_cover.specs.Numbers.{CountsBefore};
 ghost use Rattle.capn_cover.specs.Covers.{run, rows_run, content_run};
+ghost use Rattle.capn_cover.specs.Parts as parts;
+ghost use Rattle.capn_cover.specs.inner.Knows.{Knows};
 ghost use Rattle.capn_cover.specs.inner.Laid as spec;
 ghost use Rattle.capn_cover.specs.inner.Laid.{laid, touched, touched_in, followed_in, HasRoom};
 
+use crate::comparison::{Comparison, differs_from};
 use crate::covered::{Covered, Role};
-use crate::part::differs;
 use capn_target::content_words;
 use capn_walk::Shape;
 use capn_words::{Space, Width};
@@ -29,18 +32,51 @@ fn holder_after(cell: Covered, slot: u32, role: Role) -> u32
     }
 }
 
-/// Returns the word `cell` after it is covered once more, in the given `role`, by the visit of the slot with the number
-/// `slot`. Element `s` of `before` is the number of words before segment `s`.
+/// Tests whether the word `cell`, which something has covered, is an overlap once the visit of the slot with the number
+/// `slot` covers it again in the given `role`. `known` is the last comparison of that visit. Element `s` of `before` is
+/// the number of words before segment `s`.
 #[inline(always)]
-fn once_more<S: Space>(space: &S, before: &[u32], cell: Covered, slot: u32, role: Role) -> Covered
+fn is_overlap<S: Space>(
+    space: &S,
+    before: &[u32],
+    known: &mut Comparison,
+    cell: Covered,
+    slot: u32,
+    role: Role,
+) -> bool
     requires message { IsMessage (S.message space.now) }
     requires counts { CountsBefore (S.message space.now) before.now }
-    requires room { cell.times + 1 < 2 ^ 32 }
-    ensures { result ≡ spec.once_more (S.message space.now) slot role cell }
+    requires known { Knows (S.message space.now) slot role known.old }
+    ensures is { result ≡ (cell.overlap || parts.differs (S.message space.now) cell.slot cell.role slot role) }
+    ensures known { Knows (S.message space.now) slot role known.new }
 {
-    let holder = holder_after(cell, slot, role);
+    if cell.overlap {
+        return true;
+    }
+    differs_from(space, before, known, cell.slot, cell.role, slot, role)
+}
+
+/// Covers the word `cell` once more, in the given `role`, by the visit of the slot with the number `slot`, whose last
+/// comparison is `known`. Element `s` of `before` is the number of words before segment `s`.
+#[inline(always)]
+fn cover_cell<S: Space>(
+    space: &S,
+    before: &[u32],
+    cell: &mut Covered,
+    known: &mut Comparison,
+    slot: u32,
+    role: Role,
+)
+    requires message { IsMessage (S.message space.now) }
+    requires counts { CountsBefore (S.message space.now) before.now }
+    requires known { Knows (S.message space.now) slot role known.old }
+    requires room { cell.old.times + 1 < 2 ^ 32 }
+    ensures covered { cell.new ≡ spec.once_more (S.message space.now) slot role cell.old }
+    ensures known { Knows (S.message space.now) slot role known.new }
+{
+    let holder = holder_after(*cell, slot, role);
     if cell.times == 0 {
-        return Covered {
+        *cell = Covered {
             times: 1,
             slot,
             holder,
@@ -49,14 +85,11 @@ fn once_more<S: Space>(space: &S, before: &[u32], cell: Covered, slot: u32, role
             is_followed: cell.is_followed,
             cut: false,
         };
+        return;
     }
-    let overlap = cell.overlap || differs(space, before, cell.slot, cell.role, slot, role);
-    Covered {
-        times: cell.times + 1,
-        holder,
-        overlap,
-        ..cell
-    }
+    cell.overlap = is_overlap(space, before, known, *cell, slot, role);
+    cell.holder = holder;
+    cell.times += 1;
 }
 
 /// Marks the word with the number `slot` as followed.
@@ -69,29 +102,57 @@ fn follow(cells: &mut [Covered], slot: u32)
 }
 
 /// Covers the word with the number `word` once more, by the visit of the slot with the number `slot`, which is marked
-/// as followed.
+/// as followed and whose last comparison is `known`.
 #[inline(always)]
 fn touch<S: Space>(
     space: &S,
     before: &[u32],
     cells: &mut [Covered],
+    known: &mut Comparison,
     word: u32,
     slot: u32,
     role: Role,
 )
     requires message { IsMessage (S.message space.now) }
     requires counts { CountsBefore (S.message space.now) before.now }
+    requires known { Knows (S.message space.now) slot role known.old }
     requires within { word < length cells.old }
     requires room { HasRoom 1 cells.old }
-    ensures { cells.new ≡ touched_in (S.message space.now) word slot role cells.old }
+    ensures cells { cells.new ≡ touched_in (S.message space.now) word slot role cells.old }
+    ensures known { Knows (S.message space.now) slot role known.new }
 {
-    let i = word as usize;
-    cells[i] = once_more(space, before, cells[i], slot, role);
+    cover_cell(space, before, &mut cells[word as usize], known, slot, role);
+}
+
+/// Covers the word with the number `word` once more, by the visit of the slot with the number `slot`, whose last
+/// comparison is `known`.
+#[inline(always)]
+#[tactic(auto, using(crate::proofs::LaidItems::room_followed, crate::proofs::LaidItems::length_followed))]
+fn cover_next<S: Space>(
+    space: &S,
+    before: &[u32],
+    cells: &mut [Covered],
+    known: &mut Comparison,
+    word: u32,
+    slot: u32,
+    role: Role,
+)
+    requires message { IsMessage (S.message space.now) }
+    requires counts { CountsBefore (S.message space.now) before.now }
+    requires known { Knows (S.message space.now) slot role known.old }
+    requires within { word < length cells.old }
+    requires by { slot < length cells.old }
+    requires room { HasRoom 1 cells.old }
+    ensures cells { cells.new
+        ≡ touched (S.message space.now) (record { word = word; slot = slot; role = role }) cells.old }
+    ensures known { Knows (S.message space.now) slot role known.new }
+{
+    follow(cells, slot);
+    touch(space, before, cells, known, word, slot, role);
 }
 
 /// Covers the word with the number `word` once more, by the visit of the slot with the number `slot`.
 #[inline(always)]
-#[tactic(auto, using(crate::proofs::LaidItems::room_followed, crate::proofs::LaidItems::length_followed))]
 pub fn cover_word<S: Space>(
     space: &S,
     before: &[u32],
@@ -107,8 +168,36 @@ pub fn cover_word<S: Space>(
     requires room { HasRoom 1 cells.old }
     ensures { cells.new ≡ touched (S.message space.now) (record { word = word; slot = slot; role = role }) cells.old }
 {
-    follow(cells, slot);
-    touch(space, before, cells, word, slot, role);
+    let mut known = Comparison::of_itself(slot, role);
+    cover_next(space, before, cells, &mut known, word, slot, role);
+}
+
+/// Covers `count` words from the number `first` on, each once more, by the visit of the slot with the number `slot`,
+/// whose last comparison is `known`.
+#[inline(always)]
+fn cover_words<S: Space>(
+    space: &S,
+    before: &[u32],
+    cells: &mut [Covered],
+    known: &mut Comparison,
+    first: u32,
+    count: u32,
+    slot: u32,
+    role: Role,
+)
+    requires message { IsMessage (S.message space.now) }
+    requires counts { CountsBefore (S.message space.now) before.now }
+    requires known { Knows (S.message space.now) slot role known.old }
+    requires within { first + count ≤ length cells.old }
+    requires by { slot < length cells.old }
+    requires few { length cells.old ≤ most_words }
+    requires room { HasRoom count cells.old }
+    ensures cells { cells.new ≡ laid (S.message space.now) (run slot role first count) cells.old }
+    ensures known { Knows (S.message space.now) slot role known.new }
+{
+    for i in 0..count {
+        cover_next(space, before, cells, known, first + i, slot, role);
+    }
 }
 
 /// Covers `count` words from the number `first` on, each once more.
@@ -130,18 +219,18 @@ pub fn cover_run<S: Space>(
     requires room { HasRoom count cells.old }
     ensures { cells.new ≡ laid (S.message space.now) (run slot role first count) cells.old }
 {
-    for i in 0..count {
-        cover_word(space, before, cells, first + i, slot, role);
-    }
+    let mut known = Comparison::of_itself(slot, role);
+    cover_words(space, before, cells, &mut known, first, count, slot, role);
 }
 
 /// Covers the words of `count` rows from the number `first` on, each once more. Each row has `words` data words and
-/// then `slots` slots.
+/// then `slots` slots. `known` is the last comparison of the visit.
 #[inline(always)]
 fn cover_rows<S: Space>(
     space: &S,
     before: &[u32],
     cells: &mut [Covered],
+    known: &mut Comparison,
     first: u32,
     count: u32,
     words: u16,
@@ -150,19 +239,31 @@ fn cover_rows<S: Space>(
 )
     requires message { IsMessage (S.message space.now) }
     requires counts { CountsBefore (S.message space.now) before.now }
+    requires known { Knows (S.message space.now) slot roles.Data known.old }
     requires within { first + count * (words + slots) ≤ length cells.old }
     requires by { slot < length cells.old }
     requires few { length cells.old ≤ most_words }
     requires room { HasRoom (count * (words + slots)) cells.old }
-    ensures { cells.new ≡ laid (S.message space.now) (rows_run slot first words slots count) cells.old }
+    ensures cells { cells.new ≡ laid (S.message space.now) (rows_run slot first words slots count) cells.old }
+    ensures known { Knows (S.message space.now) slot roles.Data known.new }
 {
     let mut next = first;
     for row in 0..count {
-        cover_run(space, before, cells, next, words as u32, slot, Role::Data);
-        cover_run(
+        cover_words(
             space,
             before,
             cells,
+            known,
+            next,
+            words as u32,
+            slot,
+            Role::Data,
+        );
+        cover_words(
+            space,
+            before,
+            cells,
+            known,
             next + words as u32,
             slots as u32,
             slot,
@@ -193,11 +294,22 @@ pub fn cover_content<S: Space>(
 {
     match shape {
         Shape::Node { words, slots } => {
-            cover_run(space, before, cells, first, words as u32, slot, Role::Data);
-            cover_run(
+            let mut known = Comparison::of_itself(slot, Role::Data);
+            cover_words(
                 space,
                 before,
                 cells,
+                &mut known,
+                first,
+                words as u32,
+                slot,
+                Role::Data,
+            );
+            cover_words(
+                space,
+                before,
+                cells,
+                &mut known,
                 first + words as u32,
                 slots as u32,
                 slot,
@@ -223,12 +335,24 @@ pub fn cover_content<S: Space>(
             span,
         } => {
             let taken = count * (words as u32 + slots as u32);
-            cover_run(space, before, cells, first, 1, slot, Role::Tag);
-            cover_rows(space, before, cells, first + 1, count, words, slots, slot);
-            cover_run(
+            let mut known = Comparison::of_itself(slot, Role::Tag);
+            cover_words(space, before, cells, &mut known, first, 1, slot, Role::Tag);
+            cover_rows(
                 space,
                 before,
                 cells,
+                &mut known,
+                first + 1,
+                count,
+                words,
+                slots,
+                slot,
+            );
+            cover_words(
+                space,
+                before,
+                cells,
+                &mut known,
                 first + 1 + taken,
                 span - taken,
                 slot,

@@ -8,7 +8,7 @@ use Rattle.capn_walk.proofs.shared.RowWalks.{row-inside}
 use Rattle.capn_cover.specs.Covers.{covers}
 use Rattle.capn_cover.specs.inner.Laid.{cover_below, cover_of}
 use Rattle.capn_cover.proofs.BelowSlots.{slots-split, slots-next, slots_to, rows-split, rows-next, rows_to, row_slots}
-use Rattle.capn_cover.proofs.BelowSlots.{below-zero, below-target, below-fault}
+use Rattle.capn_cover.proofs.BelowSlots.{below-zero, below-null, below-target, below-fault}
 use Rattle.capn_cover.proofs.Rooms.{laid-next, room-first, room-second, room-part}
 use Rattle.capn_cover.proofs.cover_visits.+cover_slots.Goals as goal
 
@@ -87,6 +87,17 @@ cover_slots-cover_slot-requires g t c κs within =
     (cover_of m d (places s (w + i + 1) (c.args.count - suc i))) c.args.cells.now c.loop-i.cells
     (slots-split m d s w i c.args.count c.loop-i-test.true) c.loop-i.invariant c.requires.room in
     search rules
+
+pub cover_slots-loop-i-preserved-then-word-eq0 : goal.cover_slots-loop-i-preserved-then-word-eq0
+cover_slots-loop-i-preserved-then-word-eq0 g t c =
+    let m = g.S.Space.message c.args.space.now in
+    let s = c.args.first.segment in
+    let w = c.args.first.word in
+    let d = c.args.depth in
+    let i = c.loop-i.i in
+    let null = below-null m (slot s (w + i)) d (sym c.word.ensures ∙ c.if-word-eq0.true) in
+    laid-next m _ (slots_to m d s w i) (cover_below m d (slot s (w + i))) c.args.cells.now c.loop-i.cells _
+    (slots-next m d s w i) c.loop-i.invariant (rw null refl)
 
 pub cover_slots-loop-i-preserved : goal.cover_slots-loop-i-preserved
 cover_slots-loop-i-preserved g t c =

@@ -1,5 +1,7 @@
 use Rattle.std.proofs.Common.{◌≡◌, ◌+◌, ◌*◌}
 use Rattle.capn_cover.specs.Covers.{rows_run}
+use Rattle.capn_cover.specs.declared.covered.Role.TheVariants as roles
+use Rattle.capn_cover.specs.inner.Knows.{Knows}
 use Rattle.capn_cover.specs.inner.Laid.{laid}
 use Rattle.capn_cover.proofs.object_words.cover_rows.Given as goal
 
@@ -7,4 +9,5 @@ abbrev pub invariant-loop-row : goal.invariant-loop-row
 invariant-loop-row g l = record {
   next : l.next ≡ l.first + l.row * (l.words + l.slots);
   cells : l.cells ≡ laid (g.S.Space.message l.space) (rows_run l.slot l.first l.words l.slots l.row) l.initial.cells;
+  known : Knows (g.S.Space.message l.space) l.slot roles.Data l.known;
 }

@@ -1,8 +1,0 @@
-use Rattle.std.proofs.Common.{◌≡◌}
-use Rattle.capn_cover.specs.Covers.{run}
-use Rattle.capn_cover.specs.inner.Laid.{laid}
-use Rattle.capn_cover.proofs.object_words.cover_run.Given as goal
-
-abbrev pub invariant-loop-i : goal.invariant-loop-i
-invariant-loop-i g l =
-    l.cells ≡ laid (g.S.Space.message l.space) (run l.slot l.role l.first l.i) l.initial.cells
