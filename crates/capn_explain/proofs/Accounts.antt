@@ -17,7 +17,7 @@ use Rattle.capn_mismatch.specs.declared.whose.Whose.TheVariants as whose
 use Rattle.capn_explain.specs.Accounts.{IsAccount, IsAccountText, account_text}
 use Rattle.capn_explain.specs.Reports.{IsFirst, PutsAccount, PutsText, lines_first}
 use Rattle.capn_explain.specs.declared.account.Account.{Account}
-use Rattle.capn_explain.specs.declared.explain.Explain.{Explain}
+use Rattle.capn_explain.specs.declared.order.Order.{Order}
 
 module _ {A : Type 0} where
   -- The vector `d`, with `Unit` as the type of its allocator.
@@ -104,7 +104,7 @@ module _ {A : Type 0} where
     first_kept (Ok a) first found mismatched = (first, account_told a found)
     first_kept (Err memory) first found mismatched = (first, mismatched refl)
 
-  pub puts_account : (order : Explain) (at : Position) (message : List (List ℕ)) (a : Account A) (old new : List ℕ)
+  pub puts_account : (order : Order) (at : Position) (message : List (List ℕ)) (a : Account A) (old new : List ℕ)
       (r : Result (Unit {0}) ServeFault) → IsAccount order.form at message order.limits a
       → PutsText (account_text a) old new r → PutsAccount order at message old new r
   puts_account order at message a old new (Ok u) is put =

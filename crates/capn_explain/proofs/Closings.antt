@@ -1,6 +1,7 @@
--- Lemmas for `run_explain` and `write_refusal`: the text that follows the loop over the messages.
-use Rattle.std.proofs.Common.{◌≡◌, ◌≢◌, ◌↔◌, ◌⊎◌, inl, inr, ℕ, List, [], Bool, true, false, Option, None, Some, OnOk}
-use Rattle.std.proofs.Common.{IsErrOf, IsErrAnd, IsOkUnless, length, arith, Result, Ok, Err, refl, ap, sym, subst, ◌∙◌}
+-- Lemmas for `explain_messages` and `write_refusal`: the text that follows the loop over the messages.
+use Rattle.std.proofs.Common.{◌≡◌, ◌≢◌, ◌↔◌, ◌⊎◌, inl, inr, ℕ, List, [], ◌∷◌, Bool, true, false, Option, None, Some}
+use Rattle.std.proofs.Common.{OnOk, IsErrOf, IsErrAnd, IsOkUnless, length, arith, Result, Ok, Err, refl, ap, sym, subst}
+use Rattle.std.proofs.Common.{◌∙◌}
 use Rattle.std.specs.Io.KnownBytes.{Appends}
 use Rattle.capn_words.specs.Watched.{HasBegun}
 use Rattle.capn_walk.specs.Limits.{Bounds}
@@ -9,11 +10,13 @@ use Rattle.capn_serve.specs.declared.fault.RunFault.{RunFault}
 use Rattle.capn_serve.specs.declared.fault.RunFault.TheVariants as faults
 use Rattle.capn_serve.specs.declared.position.Position.{Position}
 use Rattle.capn_serve.specs.WhatCame.{Came}
-use Rattle.capn_explain.specs.ExplainRun.{ending_by, rest_ending}
+use Rattle.capn_explain.specs.ExplainRun.{ending_by, rest_ending, told_at}
 use Rattle.capn_explain.specs.FaultLines.{fault_lines}
-use Rattle.capn_explain.specs.Reports.{First}
-use Rattle.capn_explain.specs.inner.Closing.{IsFineIfTold, PutsClosing, told_by}
-use Rattle.capn_explain.specs.declared.explain.Explain.{Explain}
+use Rattle.capn_explain.specs.Reports.{First, apart}
+use Rattle.capn_explain.specs.inner.Closing.{IsFineIfTold, PutsClosing}
+use Rattle.capn_explain.specs.declared.order.Order.{Order}
+use Rattle.capn_explain.specs.declared.order.Wanted.{Wanted}
+use Rattle.capn_explain.specs.declared.order.Wanted.TheVariants as wants
 use Rattle.capn_explain.specs.declared.outcome.Outcome.{Outcome}
 use Rattle.capn_explain.specs.declared.outcome.Outcome.TheVariants as outcomes
 
@@ -54,24 +57,34 @@ fault_some : (limits : Bounds) (at : Position) (r : Refusal) (rest group : List 
     → fault_lines limits at r rest group ≢ []
 fault_some limits at r rest group = λ h. absurd (omega (arith, ap length h))
 
-pub told_some : (apart : Bool) (order : Explain) (at : Position) (r : Refusal) (came : Came)
-    → told_by apart order at r came ≢ []
-told_some false order at r came = fault_some order.limits at r came.rest came.group
-told_some true order at r came = λ h. absurd (omega (arith, ap length h))
+apart_some : (w : Wanted) (lines : List ℕ) → lines ≢ [] → apart w lines ≢ []
+apart_some wants.Each [] some = absurd (some refl)
+apart_some wants.Each (byte ∷ bytes) some = λ h. absurd (cc)
+apart_some wants.First lines some = some
+apart_some (wants.Number number) lines some = some
+
+pub told_some : (order : Order) (at : Position) (r : Refusal) (came : Came) → told_at order at r came ≢ []
+told_some order at r came =
+    apart_some order.wanted (fault_lines order.limits at r came.rest came.group)
+    (fault_some order.limits at r came.rest came.group)
 
 -- ---- the end of a run
 
-pub rest_not_io : (number : Option ℕ) (first : Option First) → rest_ending number first ≡ Err faults.Io → ⊥
-rest_not_io (Some number) first is = absurd (cc)
-rest_not_io None (Some (Ok text)) is = absurd (cc)
-rest_not_io None (Some (Err memory)) is = absurd (cc)
-rest_not_io None None is = absurd (cc)
+rest_not_io : (w : Wanted) (first : Option First) → rest_ending w first ≡ Err faults.Io → ⊥
+rest_not_io (wants.Number number) first is = absurd (cc)
+rest_not_io wants.First (Some (Ok text)) is = absurd (cc)
+rest_not_io wants.First (Some (Err memory)) is = absurd (cc)
+rest_not_io wants.First None is = absurd (cc)
+rest_not_io wants.Each (Some (Ok text)) is = absurd (cc)
+rest_not_io wants.Each (Some (Err memory)) is = absurd (cc)
+rest_not_io wants.Each None is = absurd (cc)
 
-pub ending_not_io : (outcome : Outcome) (number : Option ℕ) (first : Option First)
-    → ending_by outcome number first ≡ Err faults.Io → ⊥
-ending_not_io outcomes.Nothing number first is = rest_not_io number first is
-ending_not_io (outcomes.Refused at s) number first is = absurd (cc)
-ending_not_io outcomes.Accepted number first is = absurd (cc)
+pub ending_not_io : (outcome : Outcome) (w : Wanted) (first : Option First)
+    → ending_by outcome w first ≡ Err faults.Io → ⊥
+ending_not_io outcomes.Nothing w first is = rest_not_io w first is
+ending_not_io (outcomes.Skipped s) w first is = absurd (cc)
+ending_not_io (outcomes.Refused at s) w first is = absurd (cc)
+ending_not_io outcomes.Accepted w first is = absurd (cc)
 
 pub io_is_not_memory : ended (Err faults.Io) ≡ Err faults.Memory → ⊥
 io_is_not_memory is = absurd (cc)

@@ -1,4 +1,4 @@
--- Lemmas for `run_explain`, `run_explain_refused` and their `serve_messages`: the end of a run that explains messages.
+-- Lemmas for `explain_messages` and `serve_messages`: the end of a run that explains messages.
 use Rattle.std.proofs.Common.{◌≡◌, ◌≢◌, ◌⊎◌, inl, inr, ℕ, List, [], ◌++◌, length, take, Bool, true, false, Option, None}
 use Rattle.std.proofs.Common.{Some, IfSome, Result, Ok, Err, refl, ap, sym, subst, ◌∙◌, append-nil}
 use Rattle.std.proofs.Math.Seq.{take-length}
@@ -287,15 +287,16 @@ module _ {X E : Type 0} (f : Fold X) (x : X) (finish : Finish X) (answer : Answe
       memory = λ h. absurd (faithful.parted h);
     }
 
-    pub finished_unwritten : (d : Option (List ℕ)) (after : Bool) (fault : RunFault)
+    pub finished_unwritten : (y : X) (d : Option (List ℕ)) (after : Bool) (fault : RunFault)
         → PutsClosing last m d before after (Err fault)
-        → Answered f x finish answer form a b c d reader after (answered (answer.of fault))
-    finished_unwritten d after fault (some, inl (memory, same, fine)) =
-        subst (λ (e : RunFault). Answered f x finish answer form a b c d reader after (answered (answer.of e)))
-        (sym memory) (unclosed d after same fine some)
-    finished_unwritten d after fault (some, inr (io, begun, failed)) =
-        subst (λ (e : RunFault). Answered f x finish answer form a b c d reader after (answered (answer.of e)))
-        (sym io) (broken d after begun failed)
+        → Answered f x finish answer form a b c d reader after (answer.by y (stopped fault))
+    finished_unwritten y d after fault (some, inl (memory, same, fine)) =
+        subst (Answered f x finish answer form a b c d reader after)
+        (sym (ap (λ (e : RunFault). answer.by y (stopped e)) memory ∙ faithful.memory_by y))
+        (unclosed d after same fine some)
+    finished_unwritten y d after fault (some, inr (io, begun, failed)) =
+        subst (Answered f x finish answer form a b c d reader after)
+        (sym (ap (λ (e : RunFault). answer.by y (stopped e)) io ∙ faithful.io_by y)) (broken d after begun failed)
 
 module _ {X E : Type 0} (f : Fold X) (x : X) (finish : Finish X) (answer : Answer X E) (faithful : IsFaithful f answer)
     (form : Form) (a b c m : Option (List ℕ)) (reader before : Bool) (y : X) where
@@ -313,11 +314,11 @@ module _ {X E : Type 0} (f : Fold X) (x : X) (finish : Finish X) (answer : Answe
       → (finish.ending y ≡ Err faults.Io → ⊥)
       → ServesMessages f x form a b c m reader before (Ok tt) y
       → PutsClosing (finish.closing y) m d before after (Err fault)
-      → Answered f x finish answer form a b c d reader after (answered (answer.of fault))
+      → Answered f x finish answer form a b c d reader after (answer.by y (stopped fault))
   finished_unclosed d after fault not_io run put =
       finished_unwritten f x finish answer faithful form a b c m reader before (Ok tt) (finish.closing y)
-      (answer.by y (finish.ending y)) (over_done f x finish answer faithful form a b c m reader before y not_io run) d
-      after fault put
+      (answer.by y (finish.ending y)) (over_done f x finish answer faithful form a b c m reader before y not_io run) y
+      d after fault put
 
   module _ (came : Came) where
     still : (d : Option (List ℕ)) (after : Bool) (e : RunFault) → fault_text finish.told e came ≡ [] → d ≡ m
@@ -351,11 +352,11 @@ module _ {X E : Type 0} (f : Fold X) (x : X) (finish : Finish X) (answer : Answe
         → ServesMessages f x form a b c m reader before (Err e) y
         → IfSome a (λ input. TellsEnd f x form input (Err e) came y)
         → PutsFault (λ at r. finish.told at r came) e m d before after (Err fault)
-        → Answered f x finish answer form a b c d reader after (answered (answer.of fault))
+        → Answered f x finish answer form a b c d reader after (answer.by y (stopped fault))
     finished_untold d after (faults.Refused at r) fault run tells put =
         finished_unwritten f x finish answer faithful form a b c m reader before (Err (faults.Refused at r))
         (finish.told at r came) (answer.by y (stopped (faults.Refused at r)))
-        (over_refused f x finish answer faithful form a b c m reader before at r y came run tells) d after fault put
+        (over_refused f x finish answer faithful form a b c m reader before at r y came run tells) y d after fault put
     finished_untold d after faults.Memory fault run tells (done, same, fine) = absurd (cc)
     finished_untold d after faults.Io fault run tells (done, same, fine) = absurd (cc)
     finished_untold d after faults.InputTooLong fault run tells (done, same, fine) = absurd (cc)

@@ -4,6 +4,6 @@ pub mod Finishes
 pub mod Reporters
 pub mod Zeros
 pub mod AtLeast
-pub mod RefusedReporters
 pub mod RefusedAnswers
 pub mod NothingWritten
+pub mod Ended

@@ -1,4 +1,4 @@
--- A run that explains one message: its closing text and its result. (Our own.)
+-- A run that explains messages: its closing text and its ending. A run that explains one message. (Our own.)
 use Rattle.std.specs.Prelude.{◌≡◌, ℕ, List, [], ◌++◌, Bool, Option, Some, None, Result, Ok, Err, codes, refl}
 use Rattle.std.specs.Fmt.{digits}
 use Rattle.std.specs.Io.KnownBytes.{Appends}
@@ -16,17 +16,20 @@ use Rattle.capn_diagnostics.specs.declared.count_text.CountText.{CountText}
 use Rattle.capn_diagnostics.specs.declared.count_text.CountText.TheVariants as counts
 use Rattle.capn_explain.specs.FaultLines.{fault_lines}
 use Rattle.capn_explain.specs.Finish.{Finish, Finished}
-use Rattle.capn_explain.specs.Reports.{First, Reporting, done, first_reporting, refuses, serves}
+use Rattle.capn_explain.specs.Reports.{First, Reporting, apart, done, first_reporting, order_of, refuses, serves}
 use Rattle.capn_explain.specs.declared.explain.Explain.{Explain}
+use Rattle.capn_explain.specs.declared.order.Order.{Order}
+use Rattle.capn_explain.specs.declared.order.Wanted.{Wanted}
+use Rattle.capn_explain.specs.declared.order.Wanted.TheVariants as wants
 use Rattle.capn_explain.specs.declared.outcome.Outcome.{Outcome}
 use Rattle.capn_explain.specs.declared.outcome.Outcome.TheVariants as outcomes
 
--- The fold over the messages of an input, up to the message that is explained.
-abbrev pub explain_fold : Explain → Fold (Run Reporting)
+-- The fold over the messages of an input, up to the one message that is explained, or over all messages.
+abbrev pub explain_fold : Order → Fold (Run Reporting)
 explain_fold order = fold_until serves refuses done order.limits.message_words
 
 -- The state of a run with the options `order`, before its first message.
-abbrev pub first_run : Explain → Run Reporting
+abbrev pub first_run : Order → Run Reporting
 first_run order = record {
   service = first_reporting order;
   at = start;
@@ -36,75 +39,77 @@ first_run order = record {
 abbrev pub count_line : CountText → List ℕ
 count_line count = count_text count ++ codes "\n"
 
--- The closing text of a run that explained none of its `count` messages in the loop. If `number` is given, or `first`
+-- The closing text of a run that explained none of its `count` messages in the loop. If a number is given, or `first`
 -- is `None`, the text is a line with `count`. Otherwise it is the lines in `first`, or empty if `first` is an error.
-abbrev pub rest_text : Option ℕ → Option First → ℕ → List ℕ
-rest_text (Some number) first count = count_line (counts.Fewer count)
-rest_text None (Some (Ok text)) count = text
-rest_text None (Some (Err memory)) count = []
-rest_text None None count = count_line (counts.NoneRefused count)
+abbrev pub rest_text : Wanted → Option First → ℕ → List ℕ
+rest_text (wants.Number number) first count = count_line (counts.Fewer count)
+rest_text _ (Some (Ok text)) count = text
+rest_text _ (Some (Err memory)) count = []
+rest_text _ None count = count_line (counts.NoneRefused count)
 
--- The closing text of a run. It is `rest_text` if the outcome is `Nothing`, and otherwise `lines`, which explain a
--- message.
-abbrev pub closing_by : Outcome → List ℕ → Option ℕ → Option First → ℕ → List ℕ
-closing_by outcomes.Nothing lines number first count = rest_text number first count
-closing_by (outcomes.Refused at stopped) lines number first count = lines
-closing_by outcomes.Accepted lines number first count = lines
+-- The closing text of a run. It is `rest_text` if the outcome is `Nothing`. It is empty if every refused message was
+-- explained in the loop. Otherwise it is `lines`, which explain a message.
+abbrev pub closing_by : Outcome → List ℕ → Wanted → Option First → ℕ → List ℕ
+closing_by outcomes.Nothing lines wanted first count = rest_text wanted first count
+closing_by (outcomes.Skipped skipped) lines wanted first count = []
+closing_by (outcomes.Refused at stopped) lines wanted first count = lines
+closing_by outcomes.Accepted lines wanted first count = lines
 
 -- The closing text that `closing_by` gives for the state `run` after the last message.
 abbrev pub closing : Run Reporting → List ℕ
 closing run =
-    closing_by run.service.outcome run.service.lines run.service.order.number run.service.first run.at.index
+    closing_by run.service.outcome run.service.lines run.service.order.wanted run.service.first run.at.index
 
--- The ending of a run that explained no message in the loop. It is `Memory` if `number` is not given and `first` is an
+-- The ending of a run that explained no message in the loop. It is `Memory` if no number is given and `first` is an
 -- error, and otherwise `Ok`.
-abbrev pub rest_ending : Option ℕ → Option First → Result (Unit {0}) RunFault
-rest_ending (Some number) first = Ok tt
-rest_ending None (Some (Ok text)) = Ok tt
-rest_ending None (Some (Err memory)) = Err faults.Memory
-rest_ending None None = Ok tt
+abbrev pub rest_ending : Wanted → Option First → Result (Unit {0}) RunFault
+rest_ending (wants.Number number) first = Ok tt
+rest_ending _ (Some (Ok text)) = Ok tt
+rest_ending _ (Some (Err memory)) = Err faults.Memory
+rest_ending _ None = Ok tt
 
--- The ending of a run whose loop ended with `Ok`. It is `Refused` if the explained message is refused, and `Ok` if that
--- message is accepted. If the outcome is `Nothing`, it is `rest_ending`.
-abbrev pub ending_by : Outcome → Option ℕ → Option First → Result (Unit {0}) RunFault
-ending_by outcomes.Nothing number first = rest_ending number first
-ending_by (outcomes.Refused at stopped) number first = Err (faults.Refused at (refusals.Walk stopped))
-ending_by outcomes.Accepted number first = Ok tt
+-- The ending of a run whose loop ended with `Ok`. If the outcome is `Nothing`, it is `rest_ending`. It is `Refused` if
+-- the one message to explain is refused, and otherwise `Ok`.
+abbrev pub ending_by : Outcome → Wanted → Option First → Result (Unit {0}) RunFault
+ending_by outcomes.Nothing wanted first = rest_ending wanted first
+ending_by (outcomes.Skipped skipped) wanted first = Ok tt
+ending_by (outcomes.Refused at stopped) wanted first = Err (faults.Refused at (refusals.Walk stopped))
+ending_by outcomes.Accepted wanted first = Ok tt
 
 -- The ending that `ending_by` gives for the state `run` after the last message.
 abbrev pub ending : Run Reporting → Result (Unit {0}) RunFault
-ending run = ending_by run.service.outcome run.service.order.number run.service.first
+ending run = ending_by run.service.outcome run.service.order.wanted run.service.first
 
--- The lines of the message at `at`, which is refused with `refusal` before its walk. `came` has the bytes of this
--- message that were read and kept.
-abbrev pub told_at : Explain → Position → Refusal → Came → List ℕ
-told_at order at refusal came = fault_lines order.limits at refusal came.rest came.group
+-- The lines of the message at `at`, which is refused with `refusal` before its walk, and an empty line if every refused
+-- message is explained. `came` has the bytes of this message that were read and kept.
+abbrev pub told_at : Order → Position → Refusal → Came → List ℕ
+told_at order at refusal came = apart order.wanted (fault_lines order.limits at refusal came.rest came.group)
 
 -- The end of a run with the options `order`: its closing text, its ending, and the lines of a refused message.
-abbrev pub explain_finish : Explain → Finish (Run Reporting)
+abbrev pub explain_finish : Order → Finish (Run Reporting)
 explain_finish order = record {
   closing = λ y. closing y;
   ending = λ y. ending y;
   told = λ at r came. told_at order at r came;
 }
 
--- A run with the options `order` has the result `r`. Before and after the run, the bytes left in the reader are `a` and
--- `b`, and the contents of the writer are `c` and `d`. If `r` is `Memory`, nothing was written.
-pub record Explained (order : Explain) (a b c d : Option (List ℕ)) (reader_failed writer_failed : Bool)
+-- A run with the options `explain` has the result `r`. Before and after the run, the bytes left in the reader are `a`
+-- and `b`, and the contents of the writer are `c` and `d`. If `r` is `Memory`, nothing was written.
+pub record Explained (explain : Explain) (a b c d : Option (List ℕ)) (reader_failed writer_failed : Bool)
     (r : Result (Unit {0}) RunFault) : Type 0 where
-  pub run : Finished (explain_fold order) (first_run order) (explain_finish order) order.form a b c d reader_failed
-      writer_failed r
+  pub run : Finished (explain_fold (order_of explain)) (first_run (order_of explain))
+      (explain_finish (order_of explain)) explain.form a b c d reader_failed writer_failed r
   pub nothing : r ≡ Err faults.Memory → Appends c d []
 
 -- Examples of `rest_text` and `rest_ending`.
 
-none_refused : rest_text None None 3 ≡ codes "3 messages, none refused\n"
+none_refused : rest_text wants.First None 3 ≡ codes "3 messages, none refused\n"
 unfolding digits
 none_refused = refl
 
-no_memory : rest_ending None (Some (Err (record {}))) ≡ Err faults.Memory
+no_memory : rest_ending wants.Each (Some (Err (record {}))) ≡ Err faults.Memory
 no_memory = refl
 
-fewer : rest_text (Some 5) None 3 ≡ codes "3 messages\n"
+fewer : rest_text (wants.Number 5) None 3 ≡ codes "3 messages\n"
 unfolding digits
 fewer = refl

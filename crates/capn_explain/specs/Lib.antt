@@ -5,6 +5,5 @@ pub mod WhatCame
 pub mod FaultLines
 pub mod Finish
 pub mod ExplainRun
-pub mod RefusedReports
 pub mod RefusedRun
 pub mod FaultText

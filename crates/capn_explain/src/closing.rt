@@ -6,11 +6,11 @@ ghost use Rattle.capn_serve.specs.declared.fault.RunFault.TheVariants as faults;
 ghost use Rattle.capn_explain.specs.Accounts.{account_text};
 ghost use Rattle.capn_explain.specs.ExplainRun as spec;
 ghost use Rattle.capn_explain.specs.Reports.{lines_first};
-ghost use Rattle.capn_explain.specs.inner.Closing.{AreLines, IsFineIfTold, PutsClosing, PutsFault, told_by};
+ghost use Rattle.capn_explain.specs.inner.Closing.{AreLines, IsFineIfTold, PutsClosing, PutsFault};
 
 use crate::account::Account;
-use crate::explain::Explain;
 use crate::fault_lines::fault_lines;
+use crate::order::{Order, Wanted};
 use crate::outcome::Outcome;
 use crate::reporter::Reporter;
 use capn_canon::Refusal;
@@ -21,15 +21,15 @@ use std::alloc::Allocator;
 use std::io::Write;
 
 /// Returns the result of a run that read all of the input and explained no message during the loop.
-pub(crate) fn rest_ending<A: Allocator>(
-    number: Option<u64>,
+fn rest_ending<A: Allocator>(
+    wanted: Wanted,
     first: &Option<Result<Account<A>, Memory>>,
 ) -> Result<(), RunFault>
-    ensures { result ≡ spec.rest_ending number (lines_first first.now) }
+    ensures { result ≡ spec.rest_ending wanted (lines_first first.now) }
 {
-    match number {
-        Some(_) => Ok(()),
-        None => match first {
+    match wanted {
+        Wanted::Number(_) => Ok(()),
+        Wanted::First | Wanted::Each => match first {
             Some(kept) => match kept {
                 Ok(_) => Ok(()),
                 Err(_) => Err(RunFault::Memory),
@@ -46,8 +46,8 @@ pub(crate) fn ending_of<A: Allocator + Copy>(run: &Run<Reporter<A>>) -> Result<(
     let reporter = &run.service;
     match reporter.outcome() {
         Outcome::Refused(at, stopped) => Err(RunFault::Refused(at, Refusal::Walk(stopped))),
-        Outcome::Nothing => rest_ending(reporter.order().number, reporter.first()),
-        Outcome::Accepted => Ok(()),
+        Outcome::Nothing => rest_ending(reporter.order().wanted, reporter.first()),
+        Outcome::Accepted | Outcome::Skipped(_) => Ok(()),
     }
 }
 
@@ -71,17 +71,17 @@ fn only_lines<B: Allocator, A: Allocator>(
 
 /// Returns the text of a run that read `count` messages and explained no message during the loop, or `None` if the text
 /// is empty.
-pub(crate) fn rest_lines<B: Allocator, A: Allocator>(
+fn rest_lines<B: Allocator, A: Allocator>(
     alloc: A,
-    number: Option<u64>,
+    wanted: Wanted,
     first: &Option<Result<Account<B>, Memory>>,
     count: u64,
 ) -> Result<Option<String<A>>, RunFault>
-    ensures { AreLines (spec.rest_text number (lines_first first.now) count) result }
+    ensures { AreLines (spec.rest_text wanted (lines_first first.now) count) result }
 {
-    let lines = match number {
-        Some(_) => count_line(alloc, CountText::Fewer(count))?,
-        None => match first {
+    let lines = match wanted {
+        Wanted::Number(_) => count_line(alloc, CountText::Fewer(count))?,
+        Wanted::First | Wanted::Each => match first {
             Some(kept) => match kept {
                 Ok(account) => only_lines(alloc, account)?,
                 Err(_) => return Ok(None),
@@ -107,16 +107,16 @@ fn write_kept<W: Write>(lines: &[u8], writer: &mut Watched<W>) -> Result<(), Run
 /// Writes the text of a run that read `count` messages and explained no message during the loop.
 fn write_rest<W: Write, B: Allocator, A: Allocator>(
     alloc: A,
-    number: Option<u64>,
+    wanted: Wanted,
     first: &Option<Result<Account<B>, Memory>>,
     count: u64,
     writer: &mut Watched<W>,
 ) -> Result<(), RunFault>
     requires { has_failed writer.old ≡ false }
-    ensures { PutsClosing (spec.rest_text number (lines_first first.now) count) (W.contents (inner_of writer.old))
+    ensures { PutsClosing (spec.rest_text wanted (lines_first first.now) count) (W.contents (inner_of writer.old))
         (W.contents (inner_of writer.new)) (has_failed writer.old) (has_failed writer.new) result }
 {
-    match rest_lines(alloc, number, first, count)? {
+    match rest_lines(alloc, wanted, first, count)? {
         Some(lines) => Ok(writer.write_all(lines.as_bytes())?),
         None => Ok(()),
     }
@@ -135,9 +135,10 @@ pub(crate) fn write_closing<W: Write, B: Allocator + Copy, A: Allocator + Copy>(
     let reporter = &run.service;
     match reporter.outcome() {
         Outcome::Refused(_, _) | Outcome::Accepted => write_kept(reporter.lines(), writer),
+        Outcome::Skipped(_) => Ok(()),
         Outcome::Nothing => {
-            let number = reporter.order().number;
-            write_rest(alloc, number, reporter.first(), run.at.index, writer)
+            let wanted = reporter.order().wanted;
+            write_rest(alloc, wanted, reporter.first(), run.at.index, writer)
         }
     }
 }
@@ -152,65 +153,60 @@ fn with_empty_line<A: Allocator>(mut lines: String<A>) -> Result<String<A>, RunF
 }
 
 /// Returns the lines of the `refusal` that ended the loop over the messages at the position `at`. `begun` has the
-/// bytes of the refused message that were read and kept. If `apart` is true, an empty line follows.
+/// bytes of the refused message that were read and kept. If every refused message is explained, an empty line follows.
 fn refusal_lines<B: Allocator + Copy, A: Allocator>(
     alloc: A,
-    order: &Explain,
+    order: &Order,
     at: Position,
     refusal: &Refusal,
     begun: &Begun<B>,
-    apart: bool,
 ) -> Result<String<A>, RunFault>
-    ensures found { IfOk result (λ lines.
-        string_bytes lines ≡ told_by apart order.now at refusal.now begun.now) }
+    ensures found { IfOk result (λ lines. string_bytes lines ≡ spec.told_at order.now at refusal.now begun.now) }
     ensures only { IfErr result (λ e. e ≡ faults.Memory) }
 {
     let rest = begun.message();
     let group = begun.group();
     let lines = fault_lines(alloc, order.limits, at, refusal, rest, group)?;
-    if apart {
-        return with_empty_line(lines);
+    match order.wanted {
+        Wanted::Each => with_empty_line(lines),
+        Wanted::First | Wanted::Number(_) => Ok(lines),
     }
-    Ok(lines)
 }
 
-/// Writes the lines of the `refusal` that ended the loop over the messages at the position `at`. If `apart` is true, an
-/// empty line follows.
+/// Writes the lines of the `refusal` that ended the loop over the messages at the position `at`.
 fn write_refusal<W: Write, B: Allocator + Copy, A: Allocator + Copy>(
     alloc: A,
-    order: &Explain,
+    order: &Order,
     at: Position,
     refusal: &Refusal,
     begun: &Begun<B>,
-    apart: bool,
     writer: &mut Watched<W>,
 ) -> Result<(), RunFault>
     requires { has_failed writer.old ≡ false }
-    ensures { PutsClosing (told_by apart order.now at refusal.now begun.now) (W.contents (inner_of writer.old))
+    ensures { PutsClosing (spec.told_at order.now at refusal.now begun.now) (W.contents (inner_of writer.old))
         (W.contents (inner_of writer.new)) (has_failed writer.old) (has_failed writer.new) result }
 {
-    let lines = refusal_lines(alloc, order, at, refusal, begun, apart)?;
+    let lines = refusal_lines(alloc, order, at, refusal, begun)?;
     Ok(writer.write_all(lines.as_bytes())?)
 }
 
-/// Writes the lines of the refusal in `fault`, which ended the loop over the messages. If `apart` is true, an empty
-/// line follows. For any other fault nothing is written.
+/// Writes the lines of the refusal in `fault`, which ended the loop over the messages. For any other fault nothing is
+/// written.
 pub(crate) fn write_fault<W: Write, B: Allocator + Copy, A: Allocator + Copy>(
     alloc: A,
-    order: &Explain,
+    order: &Order,
     fault: RunFault,
     begun: &Begun<B>,
-    apart: bool,
     writer: &mut Watched<W>,
 ) -> Result<(), RunFault>
     requires { IsFineIfTold fault (has_failed writer.old) }
-    ensures { PutsFault (λ at r. told_by apart order.now at r begun.now) fault (W.contents (inner_of writer.old))
+    ensures { PutsFault (λ at r. spec.told_at order.now at r begun.now) fault (W.contents (inner_of writer.old))
         (W.contents (inner_of writer.new)) (has_failed writer.old) (has_failed writer.new) result }
 {
     match fault {
         RunFault::Memory | RunFault::Io | RunFault::InputTooLong => Ok(()),
         RunFault::Refused(at, refusal) => {
-            write_refusal(alloc, order, at, &refusal, begun, apart, writer)
+            write_refusal(alloc, order, at, &refusal, begun, writer)
         }
     }
 }

@@ -1,16 +1,18 @@
-//! The call `run_explain`, a run that explains one message of an input.
+//! The call `run_explain`, a run that explains one message of an input, and the run that both calls make.
 
 ghost use Rattle.std.specs.Prelude.{◌≡◌, false, IfSome};
 ghost use Rattle.capn_words.specs.Watched.{inner_of, has_failed};
 ghost use Rattle.capn_explain.specs.ExplainRun as spec;
 ghost use Rattle.capn_explain.specs.ExplainRun.{Explained};
 ghost use Rattle.capn_explain.specs.Finish.{TellsEnd};
+ghost use Rattle.capn_explain.specs.inner.Ends.{Ends};
 ghost use Rattle.capn_serve.specs.Fold.{fold_until};
 ghost use Rattle.capn_serve.specs.FormRun.{ServesMessages};
 ghost use Rattle.capn_serve.specs.StreamRun.{start};
 
 use crate::closing::{ending_of, write_closing, write_fault};
 use crate::explain::Explain;
+use crate::order::{Order, order_of};
 use crate::reporter::Reporter;
 use capn_canon::{Form, Limits};
 use capn_serve::{Begun, Run, RunFault, Service, serve_form_with};
@@ -18,15 +20,9 @@ use capn_words::Watched;
 use std::alloc::Allocator;
 use std::io::{Read, Write};
 
-fn first_run<A: Allocator + Copy>(alloc: A, order: Explain) -> Run<Reporter<A>>
-    ensures { result ≡ spec.first_run order }
-{
-    Run::new(Reporter::new(alloc, order))
-}
-
 /// Serves the messages of an input in `form`, within `limits`. `begun` gets bytes of a message that is refused before
 /// its walk, as [`serve_form_with`] says.
-pub(crate) fn serve_messages<S: Service, R: Read, W: Write, A: Allocator + Copy>(
+fn serve_messages<S: Service, R: Read, W: Write, A: Allocator + Copy>(
     alloc: A,
     form: Form,
     limits: Limits,
@@ -49,6 +45,43 @@ pub(crate) fn serve_messages<S: Service, R: Read, W: Write, A: Allocator + Copy>
 {
     let most = limits.message_words();
     serve_form_with(alloc, form, most, run, begun, reader, writer)
+}
+
+/// Returns the state of a run with the options `order`, before its first message.
+pub(crate) fn first_run<A: Allocator + Copy>(alloc: A, order: &Order) -> Run<Reporter<A>>
+    ensures { result ≡ spec.first_run order.now }
+{
+    Run::new(Reporter::new(alloc, *order))
+}
+
+/// Serves the messages of the input of `reader` to the reporter of `run`, and writes the text that follows them.
+/// Returns the ending of the run.
+pub(crate) fn explain_messages<R: Read, W: Write, A: Allocator + Copy>(
+    alloc: A,
+    order: &Order,
+    run: &mut Run<Reporter<A>>,
+    reader: &mut Watched<R>,
+    writer: &mut Watched<W>,
+) -> Result<(), RunFault>
+    requires fresh { run.old ≡ spec.first_run order.now }
+    requires reader_fine { has_failed reader.old ≡ false }
+    requires writer_fine { has_failed writer.old ≡ false }
+    ensures { Ends order.now (R.remaining (inner_of reader.old)) (R.remaining (inner_of reader.new))
+        (W.contents (inner_of writer.old)) (W.contents (inner_of writer.new)) (has_failed reader.new)
+        (has_failed writer.new) result run.new }
+{
+    let mut begun = Begun::new(alloc);
+    let (form, limits) = (order.form, order.limits);
+    match serve_messages(alloc, form, limits, run, &mut begun, reader, writer) {
+        Ok(()) => {
+            write_closing(alloc, run, writer)?;
+            ending_of(run)
+        }
+        Err(stopped) => {
+            write_fault(alloc, order, stopped, &begun, writer)?;
+            Err(stopped)
+        }
+    }
 }
 
 /// Explains one message of the input of `reader`: the first refused message, or the message with the number in `order`.
@@ -81,17 +114,7 @@ pub fn run_explain<R: Read, W: Write, A: Allocator + Copy>(
         (W.contents (inner_of writer.old)) (W.contents (inner_of writer.new)) (has_failed reader.new)
         (has_failed writer.new) result }
 {
-    let (form, limits) = (order.form, order.limits);
-    let mut run = first_run(alloc, order);
-    let mut begun = Begun::new(alloc);
-    match serve_messages(alloc, form, limits, &mut run, &mut begun, reader, writer) {
-        Ok(()) => match write_closing(alloc, &run, writer) {
-            Ok(()) => ending_of(&run),
-            Err(fault) => Err(fault),
-        },
-        Err(stopped) => match write_fault(alloc, &order, stopped, &begun, false, writer) {
-            Ok(()) => Err(stopped),
-            Err(fault) => Err(fault),
-        },
-    }
+    let order = order_of(order);
+    let mut run = first_run(alloc, &order);
+    explain_messages(alloc, &order, &mut run, reader, writer)
 }

@@ -1,6 +1,6 @@
 //! The lines that explain one message.
 
-ghost use Rattle.std.specs.Prelude.{◌≡◌, IfOk, IfErr, string_bytes};
+ghost use Rattle.std.specs.Prelude.{◌≡◌, ◌++◌, codes, IfOk, IfErr, string_bytes};
 ghost use Rattle.capn_walk.specs.Accepted.{IsWalkRefused};
 ghost use Rattle.capn_serve.specs.declared.fault.ServeFault.TheVariants as faults;
 ghost use Rattle.capn_explain.specs.Accounts.{account_text};
@@ -8,7 +8,7 @@ ghost use Rattle.capn_explain.specs.inner.Figures.{AreFigures};
 ghost use Rattle.capn_explain.specs.Reports.{IsTold, PutsAccount, PutsText};
 
 use crate::account::{Account, account_of};
-use crate::explain::Explain;
+use crate::order::Order;
 use capn_diagnostics::{Explanation, explain_stop};
 use capn_serve::{Position, ServeFault, table_words};
 use capn_walk::{Measured, Stopped};
@@ -18,7 +18,7 @@ use std::alloc::Allocator;
 /// Returns the lines that explain `message`, whose walk ended with `stopped`.
 pub(crate) fn told_of<S: Space, A: Allocator + Copy>(
     alloc: A,
-    order: &Explain,
+    order: &Order,
     at: Position,
     message: &S,
     stopped: Stopped,
@@ -49,6 +49,17 @@ pub(crate) fn put_bytes<A: Allocator>(text: &mut Vec<u8, A>, bytes: &[u8]) -> Re
     Ok(text.extend_from_slice(bytes)?)
 }
 
+/// Appends `lines` and an empty line to `text`, or nothing if an allocation is refused.
+pub(crate) fn put_apart<B: Allocator, A: Allocator>(
+    mut lines: Vec<u8, B>,
+    text: &mut Vec<u8, A>,
+) -> Result<(), ServeFault>
+    ensures { PutsText (lines.items ++ codes "\n") text.old.items text.new.items result }
+{
+    put_bytes(&mut lines, b"\n")?;
+    put_bytes(text, &lines)
+}
+
 fn lines_of<B: Allocator, A: Allocator>(
     alloc: A,
     account: &Account<B>,
@@ -75,7 +86,7 @@ fn put_account<B: Allocator, A: Allocator + Copy>(
 /// and `surveyed` has its figures.
 pub(crate) fn put_accepted<S: Space, A: Allocator + Copy>(
     alloc: A,
-    order: &Explain,
+    order: &Order,
     at: Position,
     message: &S,
     surveyed: Measured,

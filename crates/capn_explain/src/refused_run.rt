@@ -5,21 +5,48 @@ ghost use Rattle.capn_words.specs.Watched.{inner_of, has_failed};
 ghost use Rattle.capn_explain.specs.RefusedRun as spec;
 ghost use Rattle.capn_explain.specs.RefusedRun.{ExplainedRefused};
 
-use crate::closing::write_fault;
 use crate::explain_refused::ExplainRefused;
-use crate::explain_run::serve_messages;
+use crate::explain_run::{explain_messages, first_run};
 use crate::fault::ReportFault;
-use crate::refused_closing::{answer_of, ending_of, write_closing};
-use crate::refused_reporter::{RefusedReporter, each_of};
-use capn_serve::{Begun, Run};
+use crate::order::each_of;
+use crate::outcome::skipped_in;
+use capn_serve::{RunFault, SkippedSoFar, skipped_of};
 use capn_words::Watched;
 use std::alloc::Allocator;
 use std::io::{Read, Write};
 
-fn first_run<A: Allocator>(alloc: A, order: ExplainRefused) -> Run<RefusedReporter<A>>
-    ensures { result ≡ spec.first_run order }
+/// Returns the fault of a run whose loop ended with `fault` after `messages` messages. `skipped` counts the messages
+/// that were refused by their walk.
+fn fault_after(skipped: Option<SkippedSoFar>, messages: u64, fault: RunFault) -> ReportFault
+    ensures { result ≡ spec.fault_after skipped messages fault }
 {
-    Run::new(RefusedReporter::new(alloc, order))
+    match skipped {
+        Some(skipped) => match fault {
+            RunFault::Refused(at, refusal) => {
+                ReportFault::RefusedAfterSkipped(skipped_of(skipped, messages), at, refusal)
+            }
+            RunFault::Memory | RunFault::Io | RunFault::InputTooLong => ReportFault::Ended(fault),
+        },
+        None => ReportFault::Ended(fault),
+    }
+}
+
+/// Returns the result of a run over `messages` messages whose loop and closing text ended with `end`. `skipped` counts
+/// the messages that were refused by their walk.
+fn answer_by(
+    skipped: Option<SkippedSoFar>,
+    messages: u64,
+    end: Result<(), RunFault>,
+) -> Result<(), ReportFault>
+    ensures { result ≡ spec.answer_by skipped messages end }
+{
+    match end {
+        Ok(()) => match skipped {
+            Some(skipped) => Err(ReportFault::Skipped(skipped_of(skipped, messages))),
+            None => Ok(()),
+        },
+        Err(fault) => Err(fault_after(skipped, messages, fault)),
+    }
 }
 
 /// Explains every refused message of the input of `reader`, within the limits of `order`. Writes the lines to `writer`,
@@ -51,18 +78,8 @@ pub fn run_explain_refused<R: Read, W: Write, A: Allocator + Copy>(
         (W.contents (inner_of writer.old)) (W.contents (inner_of writer.new)) (has_failed reader.new)
         (has_failed writer.new) result }
 {
-    let (form, limits) = (order.form, order.limits);
-    let mut run = first_run(alloc, order);
-    let each = each_of(ExplainRefused { form, limits });
-    let mut begun = Begun::new(alloc);
-    match serve_messages(alloc, form, limits, &mut run, &mut begun, reader, writer) {
-        Ok(()) => match write_closing(alloc, &run, writer) {
-            Ok(()) => answer_of(&run, ending_of(&run)),
-            Err(fault) => Err(ReportFault::Ended(fault)),
-        },
-        Err(stopped) => match write_fault(alloc, &each, stopped, &begun, true, writer) {
-            Ok(()) => answer_of(&run, Err(stopped)),
-            Err(fault) => Err(ReportFault::Ended(fault)),
-        },
-    }
+    let order = each_of(order);
+    let mut run = first_run(alloc, &order);
+    let end = explain_messages(alloc, &order, &mut run, reader, writer);
+    answer_by(skipped_in(run.service.outcome()), run.at.index, end)
 }

@@ -1,33 +1,39 @@
-//! The service `Reporter`, which finds the message to explain, and keeps the lines that explain it.
+//! The service `Reporter`, which explains the messages that the options of a run select.
 
-ghost use Rattle.std.specs.Prelude.{◌≡◌, [], false};
+ghost use Rattle.std.specs.Prelude.{◌≡◌, false};
+ghost use Rattle.capn_walk.specs.Accepted.{IsWalkRefused};
 ghost use Rattle.capn_explain.specs.Reports as spec;
 ghost use Rattle.capn_explain.specs.inner.Figures.{AreFigures};
-ghost use Rattle.capn_explain.specs.Reports.{IsFirst, Keeps, ServesBy, TellsAccepted};
+ghost use Rattle.capn_explain.specs.Reports.{IsFirst, Keeps, Puts, ServesBy, TellsAccepted, TellsRefused};
 
 use crate::account::{Account, account_of};
-use crate::explain::Explain;
-use crate::message_lines::{put_accepted, told_of};
-use crate::outcome::Outcome;
-use capn_serve::{Position, ServeFault, Service, flush_long, number_of};
-use capn_walk::{Measured, survey_depth};
+use crate::message_lines::{put_accepted, put_apart, told_of};
+use crate::order::{Order, Wanted};
+use crate::outcome::{Outcome, skipped_in};
+use capn_serve::{Position, ServeFault, Service, flush_long, number_of, one_more};
+use capn_walk::{Measured, Stopped, survey_depth};
 use capn_words::{Memory, Space, Watched};
 use std::alloc::{Allocator, Global};
 use std::io::Write;
 use std::marker::Model;
 
-/// The service that finds the message to explain.
+/// The service that explains messages.
 ///
-/// Without a number the service walks each message, explains the first refused message, and then serves no further
-/// message. With a number the service skips the messages before that number, and does not walk them. It explains the
-/// message with that number, refused or accepted, and then serves no further message. A refused message does not end
-/// the loop with a fault. During the loop nothing is written, because the lines are kept and written at the end.
-/// Without a number the service also keeps the account of an accepted first message, until a later message is accepted.
-/// If an allocation was refused for that account, the service keeps this fact.
+/// `First` selects the first refused message. The service walks each message, explains the first refused one, and then
+/// serves no further message. `Number` selects one message. The service skips the messages before that number, and does
+/// not walk them. It explains the message with that number, refused or accepted, and then serves no further message. In
+/// both cases nothing is written during the loop, because the lines are kept and written at the end.
+///
+/// `Each` selects every refused message. If the walk refuses a message, the service writes the lines that explain it,
+/// and an empty line. The service counts the messages that it has explained.
+///
+/// A refused message does not end the loop with a fault. Without a number the service also keeps the account of an
+/// accepted first message, until another message is served. If an allocation was refused for that account, the service
+/// keeps this fact.
 #[derive(Drop)]
 pub struct Reporter<A: Allocator = Global> {
     alloc: A,
-    order: Explain,
+    order: Order,
     outcome: Outcome,
     lines: Vec<u8, A>,
     first: Option<Result<Account<A>, Memory>>,
@@ -46,20 +52,20 @@ impl<A: Allocator> Model for Reporter<A> {
     } };
 }
 
-/// Returns `true` if a `number` is given, and the message at `at` is before the message with that number.
-fn is_before(at: Position, number: Option<u64>) -> bool
-    ensures { result ≡ spec.is_before at number }
+/// Returns `true` if a number is `wanted`, and the message at `at` is before the message with that number.
+fn is_before(at: Position, wanted: Wanted) -> bool
+    ensures { result ≡ spec.is_before at wanted }
 {
-    match number {
-        Some(number) => number_of(at.index) < u128::from(number),
-        None => false,
+    match wanted {
+        Wanted::Number(number) => number_of(at.index) < u128::from(number),
+        Wanted::First | Wanted::Each => false,
     }
 }
 
 /// Returns the account of an accepted `message`, if the message is the first of the input.
-pub(crate) fn first_of<S: Space, A: Allocator + Copy>(
+fn first_of<S: Space, A: Allocator + Copy>(
     alloc: A,
-    order: &Explain,
+    order: &Order,
     at: Position,
     message: &S,
     surveyed: Measured,
@@ -75,7 +81,7 @@ pub(crate) fn first_of<S: Space, A: Allocator + Copy>(
 
 impl<B: Allocator + Copy> Reporter<B> {
     /// Returns a reporter that has explained no message. The call takes no memory.
-    pub(crate) fn new(alloc: B, order: Explain) -> Reporter<B>
+    pub(crate) fn new(alloc: B, order: Order) -> Reporter<B>
         ensures { result ≡ spec.first_reporting order }
     {
         Reporter {
@@ -87,27 +93,27 @@ impl<B: Allocator + Copy> Reporter<B> {
         }
     }
 
-    pub(crate) fn order(&self) -> Explain
+    pub(crate) fn order(&self) -> Order
         ensures { result ≡ self.now.order }
     {
         self.order
     }
 
-    /// Returns the message explained so far, if there is one.
+    /// Returns the messages explained so far.
     pub(crate) fn outcome(&self) -> Outcome
         ensures { result ≡ self.now.outcome }
     {
         self.outcome
     }
 
-    /// Returns the lines of the message that has been explained, or no bytes if there is none.
+    /// Returns the lines that are kept of an explained message, or no bytes if there are none.
     pub(crate) fn lines(&self) -> &[u8]
         ensures { result.now ≡ self.now.lines }
     {
         &self.lines
     }
 
-    /// Returns the account of the first message, if that message is accepted, no later message has been accepted, and
+    /// Returns the account of the first message, if that message is accepted, no later message has been served, and
     /// the order has no number.
     pub(crate) fn first(&self) -> &Option<Result<Account<B>, Memory>>
         ensures { spec.lines_first result.now ≡ self.now.first }
@@ -123,6 +129,14 @@ impl<B: Allocator + Copy> Reporter<B> {
     {
         self.outcome = outcome;
         self.lines = lines;
+    }
+
+    /// Counts the message at `at`, which has been explained, and keeps no account.
+    fn count(&mut self, at: Position)
+        ensures { self.new ≡ spec.with_one_more self.old at }
+    {
+        self.outcome = Outcome::Skipped(one_more(skipped_in(self.outcome), at));
+        self.first = None;
     }
 
     /// Keeps `first`, the account of the first message.
@@ -144,38 +158,63 @@ impl<B: Allocator + Copy> Reporter<B> {
         ensures { Keeps (TellsAccepted self.old at (S.message message.now)) result self.new }
     {
         let order = self.order();
-        match order.number {
-            Some(_) => {
+        match order.wanted {
+            Wanted::Number(_) => {
                 let mut lines = Vec::new(self.alloc);
                 put_accepted(self.alloc, &order, at, message, surveyed, &mut lines)?;
                 self.explain(Outcome::Accepted, lines);
                 Ok(())
             }
-            None => {
+            Wanted::First | Wanted::Each => {
                 self.keep(first_of(self.alloc, &order, at, message, surveyed));
                 Ok(())
             }
         }
     }
 
-    /// Walks `message`. If the order has a number, `message` does not come before that number. Explains `message` if
-    /// its walk refuses it, or if the order has a number.
+    /// Serves a `message` whose walk ended with `stopped`. If every refused message is explained, appends the lines
+    /// that explain it and an empty line to `text`. Otherwise, keeps the lines.
+    fn report_refused<S: Space, A: Allocator + Copy>(
+        &mut self,
+        at: Position,
+        message: &S,
+        stopped: Stopped,
+        text: &mut Vec<u8, A>,
+    ) -> Result<(), ServeFault>
+        requires refused { IsWalkRefused (S.message message.now) self.old.order.limits
+            stopped.fault stopped.place stopped.paid stopped.visits }
+        ensures { Puts (TellsRefused self.old at (S.message message.now)) text.old.items text.new.items result
+            self.new }
+    {
+        let order = self.order();
+        let told = told_of(self.alloc, &order, at, message, stopped)?;
+        match order.wanted {
+            Wanted::Each => {
+                put_apart(told.text, text)?;
+                self.count(at);
+                Ok(())
+            }
+            Wanted::First | Wanted::Number(_) => {
+                self.explain(Outcome::Refused(at, told.stopped), told.text);
+                Ok(())
+            }
+        }
+    }
+
+    /// Walks `message`. If the order has a number, `message` does not come before that number.
     fn report_known<S: Space, A: Allocator + Copy>(
         &mut self,
         alloc: A,
         at: Position,
         message: &S,
+        text: &mut Vec<u8, A>,
     ) -> Result<(), ServeFault>
-        ensures { Keeps (ServesBy false self.old at (S.message message.now)) result self.new }
+        ensures { Puts (ServesBy false self.old at (S.message message.now)) text.old.items text.new.items result
+            self.new }
     {
-        let order = self.order();
-        match survey_depth(alloc, message, order.limits) {
+        match survey_depth(alloc, message, self.order().limits) {
             Ok(surveyed) => self.report_accepted(at, message, surveyed),
-            Err(stopped) => {
-                let told = told_of(self.alloc, &order, at, message, stopped)?;
-                self.explain(Outcome::Refused(at, told.stopped), told.text);
-                Ok(())
-            }
+            Err(stopped) => self.report_refused(at, message, stopped, text),
         }
     }
 
@@ -185,14 +224,15 @@ impl<B: Allocator + Copy> Reporter<B> {
         alloc: A,
         at: Position,
         message: &S,
+        text: &mut Vec<u8, A>,
     ) -> Result<(), ServeFault>
-        ensures { Keeps (ServesBy (spec.is_before at self.old.order.number) self.old at (S.message message.now)) result
-            self.new }
+        ensures { Puts (ServesBy (spec.is_before at self.old.order.wanted) self.old at (S.message message.now))
+            text.old.items text.new.items result self.new }
     {
-        if is_before(at, self.order().number) {
+        if is_before(at, self.order().wanted) {
             return Ok(());
         }
-        self.report_known(alloc, at, message)
+        self.report_known(alloc, at, message, text)
     }
 }
 
@@ -208,7 +248,7 @@ impl<B: Allocator + Copy> Service for Reporter<B> {
     #[inline(always)]
     fn is_done(&self, _at: Position) -> bool {
         match self.outcome {
-            Outcome::Nothing => false,
+            Outcome::Nothing | Outcome::Skipped(_) => false,
             Outcome::Refused(_, _) | Outcome::Accepted => true,
         }
     }
@@ -222,7 +262,7 @@ impl<B: Allocator + Copy> Service for Reporter<B> {
         text: &mut Vec<u8, A>,
         writer: &mut Watched<W>,
     ) -> Result<(), ServeFault> {
-        self.report(alloc, at, message)?;
+        self.report(alloc, at, message, text)?;
         flush_long(text, writer)
     }
 }

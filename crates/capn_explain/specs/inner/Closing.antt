@@ -1,5 +1,5 @@
 -- The effects of calls that write the text after the loop over the messages.
-use Rattle.std.specs.Prelude.{◌≡◌, ◌≢◌, ◌⊎◌, ℕ, List, [], ◌++◌, codes, Bool, true, false}
+use Rattle.std.specs.Prelude.{◌≡◌, ◌≢◌, ◌⊎◌, ℕ, List, [], Bool, true, false}
 use Rattle.std.specs.Prelude.{Option, Some, None}
 use Rattle.std.specs.Prelude.{Result, Ok, Err, ⊤, String, string_bytes}
 use Rattle.std.specs.Io.KnownBytes.{Appends}
@@ -7,21 +7,12 @@ use Rattle.capn_words.specs.Watched.{HasBegun}
 use Rattle.capn_canon.specs.declared.refusal.Refusal.{Refusal}
 use Rattle.capn_serve.specs.declared.fault.RunFault.{RunFault}
 use Rattle.capn_serve.specs.declared.fault.RunFault.TheVariants as faults
-use Rattle.capn_serve.specs.WhatCame.{Came}
 use Rattle.capn_serve.specs.declared.position.Position.{Position}
-use Rattle.capn_explain.specs.ExplainRun.{told_at}
-use Rattle.capn_explain.specs.declared.explain.Explain.{Explain}
 
 -- If the fault is `Refused`, `failed` is false, so that the writer can write the lines of the refused message.
 abbrev pub IsFineIfTold : RunFault → Bool → Type 0
 IsFineIfTold (faults.Refused at r) failed = failed ≡ false
 IsFineIfTold _ failed = ⊤
-
--- The lines of the message at `at`, which is refused with `refusal` before its walk. If the first argument is `true`,
--- an empty line follows them.
-abbrev pub told_by : Bool → Explain → Position → Refusal → Came → List ℕ
-told_by false order at refusal came = told_at order at refusal came
-told_by true order at refusal came = told_at order at refusal came ++ codes "\n"
 
 -- If the result is `lines`, they are `text`, which is not empty. If it is `None`, `text` is empty. If it is a fault,
 -- the fault is `Memory`, and `text` is not empty.

@@ -1,7 +1,8 @@
 use Rattle.std.proofs.Common.{sym, subst}
 use Rattle.capn_words.specs.Watched.{inner_of, has_failed}
 use Rattle.capn_serve.specs.declared.fault.RunFault.{RunFault}
-use Rattle.capn_explain.specs.inner.Closing.{IsFineIfTold, PutsFault, told_by}
+use Rattle.capn_explain.specs.ExplainRun.{told_at}
+use Rattle.capn_explain.specs.inner.Closing.{IsFineIfTold, PutsFault}
 use Rattle.capn_explain.proofs.closing.write_fault.Goals as goal
 
 pub write_refusal-requires : goal.write_refusal-requires
@@ -10,7 +11,7 @@ write_refusal-requires g c =
 
 pub returns-in-Refused : goal.returns-in-Refused
 returns-in-Refused g c =
-    subst (λ (e : RunFault). PutsFault (λ at r. told_by c.args.apart c.args.order.now at r c.args.begun.now) e
+    subst (λ (e : RunFault). PutsFault (λ at r. told_at c.args.order.now at r c.args.begun.now) e
     (g.W.Write.contents (inner_of c.args.writer.now)) (g.W.Write.contents (inner_of c.write_refusal.new.writer))
     (has_failed c.args.writer.now) (has_failed c.write_refusal.new.writer) c.write_refusal.result)
     (sym c.in-Refused.is) c.write_refusal.ensures

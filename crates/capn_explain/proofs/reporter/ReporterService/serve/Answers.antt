@@ -8,21 +8,19 @@ use Rattle.capn_explain.proofs.reporter.ReporterService.serve.Goals as goal
 pub returns : goal.returns
 returns g c =
     let message = g.S.Space.message c.args.message.now in
-    let text = c.args.text.now.items in
     does_flush serves refuses c.args.self.now c.report.new.self c.args.at c.args._frame.now message
-    (g.W.Write.contents (inner_of c.args.writer.now)) text text
+    (g.W.Write.contents (inner_of c.args.writer.now)) c.args.text.now.items c.report.new.text.items
     (g.W.Write.contents (inner_of c.flush_long.new.writer)) c.flush_long.new.text.items
     (has_failed c.flush_long.new.writer) c.flush_long.result
-    (puts_message c.args.self.now c.report.new.self c.args.at c.args._frame.now message text (Ok tt)
-    c.in_ok-report.ensures) c.flush_long.ensures
+    (puts_message c.args.self.now c.report.new.self c.args.at message c.args._frame.now c.args.text.now.items
+    c.report.new.text.items (Ok tt) c.in_ok-report.ensures) c.flush_long.ensures
 
 pub returns-in_err-report : goal.returns-in_err-report
 returns-in_err-report g c =
     let message = g.S.Space.message c.args.message.now in
-    let text = c.args.text.now.items in
     does_nothing serves refuses c.args.self.now c.report.new.self c.args.at c.args._frame.now message
-    (g.W.Write.contents (inner_of c.args.writer.now)) text text
+    (g.W.Write.contents (inner_of c.args.writer.now)) c.args.text.now.items c.report.new.text.items
     (has_failed c.args.writer.now) c.in_err-report.field-0.0 c.from_residual.result c.from_residual.ensures.1
     c.requires.fine
-    (puts_message c.args.self.now c.report.new.self c.args.at c.args._frame.now message text
-    (Err c.in_err-report.field-0.0) c.in_err-report.ensures)
+    (puts_message c.args.self.now c.report.new.self c.args.at message c.args._frame.now c.args.text.now.items
+    c.report.new.text.items (Err c.in_err-report.field-0.0) c.in_err-report.ensures)
