@@ -1,5 +1,5 @@
 -- Lemmas on the progress of unpacking. (For `unpack_stream`, `write_groups` and `write_some`.)
-use Rattle.std.proofs.Common.{◌≡◌, ◌⊎◌, ◌↔◌, inl, inr, ℕ, zero, suc, ◌+◌, ◌^◌, ◌<◌, ◌≤◌, List, [], ◌∷◌, ◌++◌, length}
+use Rattle.std.proofs.Common.{◌≡◌, ◌⊎◌, ◌||◌, inl, inr, ℕ, zero, suc, ◌+◌, ◌^◌, ◌<◌, ◌≤◌, List, [], ◌∷◌, ◌++◌, length}
 use Rattle.std.proofs.Common.{take, drop, get_or, Bool, true, false, Option, Err, refl, ap, sym, subst, ◌∙◌, arith}
 use Rattle.std.proofs.Common.{append_assoc, length-append, length-drop, drop-drop, take-append-drop}
 use Rattle.std.proofs.Math.Seq.{take-add, take-append-add, take-length}
@@ -19,13 +19,11 @@ use Rattle.capn_pack.specs.inner.Steps.{TakesRow}
 use Rattle.capn_pack.proofs.shared.GroupLaws.{no_group}
 use Rattle.capn_pack.proofs.shared.GroupLemmas.{each_append, text_some}
 use Rattle.capn_pack.proofs.shared.StreamLemmas.{begins_then, nothing_first, splits, splits_open, splits_then}
+use Rattle.capn_serve.proofs.shared.Wrote.{has_failed_now}
 use Rattle.capn_commands.specs.declared.flow_fault.FlowFault.{FlowFault}
 use Rattle.capn_commands.specs.declared.flow_fault.FlowFault.TheVariants as faults
 use Rattle.capn_commands.specs.Flow.{Ending, Ends, Stops}
 use Rattle.capn_commands.specs.UnpackRun.{ending_of, unpacking}
-
-abbrev stopped : FlowFault → Ending
-stopped fault = Err fault
 
 -- ---- the first groups of some bytes
 
@@ -109,12 +107,11 @@ some_refused bytes c failed fine = record {
 
 -- Case: the writer failed after a prefix of `words`, the words of some groups.
 pub some_unwritten : (bytes old words : List ℕ) (max taken count : ℕ) (next : Next) (c d : Option (List ℕ))
-    (failed : Bool) (fault : FlowFault) → old ≡ [] → UnpacksSome bytes max old words taken count next
-    → HasBegun c d words → (stopped fault ≡ Err faults.Io) ↔ (failed ≡ true) → fault ≡ faults.Io
-    → Stops unpacking bytes c d failed fault
-some_unwritten bytes old words max taken count next c d failed fault none u begun io only = record {
-  kind = inr only;
-  io = (λ e. io.0 (ap stopped e), λ h. only);
+    (before after : Bool) → old ≡ [] → UnpacksSome bytes max old words taken count next → HasBegun c d words
+    → before ≡ false → after ≡ (before || true) → Stops unpacking bytes c d after faults.Io
+some_unwritten bytes old words max taken count next c d before after none u begun fine failed = record {
+  kind = inr refl;
+  io = (λ e. has_failed_now before after fine failed, λ h. refl);
   written = (
     words,
     begun.0,

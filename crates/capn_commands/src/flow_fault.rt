@@ -2,13 +2,14 @@
 
 ghost use Rattle.std.specs.Prelude.{◌≡◌};
 ghost use Rattle.capn_commands.specs.FlowFaultText.{status_of};
+ghost use Rattle.capn_commands.specs.declared.flow_fault.FlowFault.TheVariants as faults;
 
 use capn_serve::{Ending, Line};
 use capn_words::{Memory, Watched};
 use std::alloc::AllocError;
 use std::error::Error;
 use std::fmt;
-use std::io::Write;
+use std::io::{self, Write};
 
 /// The reason why a stream is not packed or unpacked to its end.
 #[derive(Clone, Copy, Debug, PartialEq, Eq)]
@@ -26,12 +27,18 @@ pub enum FlowFault {
 }
 
 impl From<AllocError> for FlowFault {
-    ghost use Rattle.capn_commands.specs.declared.flow_fault.FlowFault.TheVariants as faults;
-
     ghost from_gives = { λ _ e. e ≡ faults.Memory };
 
     fn from(_error: AllocError) -> Self {
         FlowFault::Memory
+    }
+}
+
+impl From<io::Error> for FlowFault {
+    ghost from_gives = { λ _ e. e ≡ faults.Io };
+
+    fn from(_error: io::Error) -> Self {
+        FlowFault::Io
     }
 }
 

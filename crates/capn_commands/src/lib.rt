@@ -18,7 +18,6 @@ mod command_run;
 mod exit_status;
 mod fault;
 mod flow_fault;
-mod flow_output;
 pub mod laws;
 mod message_marks;
 mod message_stream;

@@ -18,7 +18,6 @@ ghost use Rattle.capn_commands.specs.PackRun.{
 };
 
 use crate::flow_fault::FlowFault;
-use crate::flow_output::write_all;
 use capn_pack::{pack, unpack_some};
 use capn_words::Watched;
 use std::alloc::{AllocError, Allocator};
@@ -206,7 +205,7 @@ fn pack_chunk<W: Write, A: Allocator + Copy>(
 {
     held.extend_from_slice(bytes)?;
     let settlement = settle(alloc, held)?;
-    write_all(writer, &settlement.text)?;
+    writer.write_all(&settlement.text)?;
     *held = settlement.rest;
     Ok(())
 }
@@ -243,7 +242,7 @@ fn pack_last<W: Write, A: Allocator + Copy>(
     match pack(alloc, &held[..whole]) {
         Err(_) => Err(FlowFault::Memory),
         Ok(text) => {
-            write_all(writer, &text)?;
+            writer.write_all(&text)?;
             end_after(count, is_longer)
         }
     }

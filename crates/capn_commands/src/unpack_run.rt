@@ -6,7 +6,6 @@ ghost use Rattle.capn_commands.specs.Flow.{Runs};
 ghost use Rattle.capn_commands.specs.UnpackRun.{WritesGroups, WritesSome, ending_of, unpacking};
 
 use crate::flow_fault::FlowFault;
-use crate::flow_output::write_all;
 use capn_pack::{Next, Progress, unpack_some};
 use capn_words::Watched;
 use std::alloc::Allocator;
@@ -34,7 +33,7 @@ fn write_some<W: Write, A: Allocator + Copy>(
 {
     words.clear();
     let progress = unpack_some(bytes, WORDS, words)?;
-    write_all(writer, words)?;
+    writer.write_all(words)?;
     Ok(progress)
 }
 

@@ -11,8 +11,7 @@ pub returns-in_err-write_all : goal.returns-in_err-write_all
 returns-in_err-write_all g c =
     let p = err_from_is_err_and c.from_residual-in_err-write_all.result c.from_residual-in_err-write_all.ensures.1 in
     let progress = c.in_ok-progress.progress in
+    let wrote = c.in_err-write_all.ensures in
     rw (p.1, p.2)
-    (some_unwritten c.args.bytes.now _ _ _ progress.bytes progress.words progress.next _ _ _
-    c.in_err-write_all.field-0.0 c.clear.ensures.items c.in_ok-progress.ensures.some
-    (rw c.deref.ensures.value at c.in_err-write_all.ensures.begun) c.in_err-write_all.ensures.io
-    c.in_err-write_all.ensures.only)
+    (some_unwritten c.args.bytes.now _ _ _ progress.bytes progress.words progress.next _ _ _ _ c.clear.ensures.items
+    c.in_ok-progress.ensures.some (rw c.deref.ensures.value at wrote.begun) c.requires.fine wrote.failed)
