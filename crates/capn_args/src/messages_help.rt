@@ -104,6 +104,18 @@ is wrong is explained last, because the run can't go on after it. If no message
 is rejected, the output is the same as without `--keep-going`.
 Without `--keep-going`, nothing is read after the message that is explained. The
 input may have any length.
+The bytes of a file don't say which form it has, and `capn` doesn't guess the
+form. To find it, check the file in all three forms:
+  capn check --form stream < file
+  capn check --form packed < file
+  capn check --form bare < file
+If the answer is `ok` in only one form, the file has this form. In a wrong form
+the answer is usually an error that doesn't mention the form: `frame: Cut`,
+`frame: TooManySegments(22021137)`, `bare: NotWhole(13)` or `NoRoot at 0:0`.
+If the answer is `ok` in `stream` and in `bare`, the form is almost certainly
+`stream`: nearly every message of one segment with its table can be read as
+`bare` too, but then with wrong numbers and texts. If the answer is `ok` in no
+form, the message is truncated or invalid, or other bytes come before it.
 
 Exit status:
   0  Done: the message that is explained is accepted, or there is none
@@ -141,6 +153,14 @@ belong together share a line. A line has seven columns with tabs between them:
           `overlap` says that two objects that differ have the same words
 Bytes from 0x20 to 0x7e, and a zero that ends their list, go between quotes, at
 most 32 of them.
+A line has the bytes of its first word alone, and of a text at most 32 bytes.
+The other bytes are in the input, from the byte OFFSET on, 8 for each word. So
+a line with OFFSET 24 and PLACE `0:2-5` has four words, which are these bytes:
+  tail -c +25 message | head -c 32 | od -An -tx1
+With `--form packed`, they are in what `capn unpack` writes:
+  capn unpack < message | tail -c +25 | head -c 32 | od -An -tx1
+`capn` doesn't guess the form of its input. `capn explain --help` says how to
+find the form of a file.
 The last line of a message has the byte after the message, `end`, and counts of
 its words: of all, of each kind, of those that are read twice and more
 (`shared`), of those in overlaps, of those that are cut, and of its canonical
