@@ -35,6 +35,7 @@ impl MessageTask<Global> for Write<'_> {
         ((after.out.ghost_name ≡ task.out.ghost_name) × (after.report.ghost_name ≡ task.report.ghost_name))
         × IsFilledOf m limits task.out.now after.out.now after.report.now r };
 
+    #[inline(always)]
     fn run<S: Space>(
         &mut self,
         _alloc: Global,

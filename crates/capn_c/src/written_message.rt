@@ -47,6 +47,7 @@ impl CountedWriter for IntoTask {
 /// the status. No memory is allocated.
 ///
 /// `space` is any [`Asked`], so the clause `work` bounds how often the message is read.
+#[inline(always)]
 pub fn write_message<M: Asked>(
     space: M,
     limits: Limits,
