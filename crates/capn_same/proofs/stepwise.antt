@@ -1,5 +1,6 @@
 -- Lemmas about the steps of a comparison.
 pub mod Words
+pub mod Blocks
 pub mod Bits
 pub mod Numbers
 pub mod Kinds

@@ -12,6 +12,7 @@
 #![tactic(auto)]
 
 mod asked_pair;
+mod blocks;
 mod numbers;
 mod objects;
 mod run;

@@ -39,13 +39,12 @@ pub fn is_same_slot<S: Space, T: Space, L: Ledger, M: Ledger>(
     ensures second { (w : Tree) → HasSlot b.now beside.segment beside.word w
         → second.new ≤ second.old + 9 + 20 * weight w }
 {
-    let other = target_at(b, beside, second);
     match target_at(a, at, first) {
-        Target::Nil => match other {
+        Target::Nil => match target_at(b, beside, second) {
             Target::Nil => true,
             _ => false,
         },
-        Target::Cap(index) => match other {
+        Target::Cap(index) => match target_at(b, beside, second) {
             Target::Cap(number) => index == number,
             _ => false,
         },
@@ -54,7 +53,7 @@ pub fn is_same_slot<S: Space, T: Space, L: Ledger, M: Ledger>(
             start,
             shape,
             pads: _,
-        } => match other {
+        } => match target_at(b, beside, second) {
             Target::Content {
                 segment: elsewhere,
                 start: begin,
@@ -238,6 +237,9 @@ fn are_same_slots<S: Space, T: Space, L: Ledger, M: Ledger>(
         if !is_same_slot(a, at, b, beside, depth, first, second) {
             return false;
         }
+    }
+    if one.count == two.count {
+        return true;
     }
     if !are_zero(a, behind(one.start, shared), one.count - shared, first) {
         return false;

@@ -7,12 +7,14 @@ ghost use Rattle.capn_walk.specs.ValueAt.{AreWordsAt};
 ghost use Rattle.capn_target.specs.Shapes.{IsContent};
 ghost use Rattle.capn_same.specs.inner.Runs.{AreEqual, AreZeros};
 
+use crate::blocks::are_equal_blocks;
 use crate::run::{Run, behind};
 use capn_target::counted::{CountedSpace, Reads};
 use capn_words::{Place, Space};
 use std::sync::ledger::Ledger;
 
 /// Tests whether the `count` words of `a` from `at` on equal the `count` words of `b` from `beside` on.
+#[inline(always)]
 pub fn are_equal<S: Space, T: Space, L: Ledger, M: Ledger>(
     a: &CountedSpace<'_, S, L>,
     at: Place,
@@ -31,7 +33,11 @@ pub fn are_equal<S: Space, T: Space, L: Ledger, M: Ledger>(
     ensures first { first.new ≤ first.old + 2 * count }
     ensures second { second.new ≤ second.old + 2 * count }
 {
-    for i in 0..count {
+    let blocks = count / 8;
+    if !are_equal_blocks(a, at, b, beside, blocks, first, second) {
+        return false;
+    }
+    for i in 8 * blocks..count {
         first.tick();
         second.tick();
         let word = a.word(behind(at, i), first);
@@ -43,6 +49,7 @@ pub fn are_equal<S: Space, T: Space, L: Ledger, M: Ledger>(
 }
 
 /// Tests whether the `count` words of `space` from `at` on are zero.
+#[inline(never)]
 pub fn are_zero<S: Space, L: Ledger>(
     space: &CountedSpace<'_, S, L>,
     at: Place,
@@ -65,6 +72,7 @@ pub fn are_zero<S: Space, L: Ledger>(
 
 /// Tests whether the words of the run `one` of `a` equal the words of the run `two` of `b`, one by one. The words that
 /// the shorter run lacks count as 0.
+#[inline(always)]
 pub fn are_same<S: Space, T: Space, L: Ledger, M: Ledger>(
     a: &CountedSpace<'_, S, L>,
     one: Run,
@@ -86,6 +94,9 @@ pub fn are_same<S: Space, T: Space, L: Ledger, M: Ledger>(
     let shared = one.count.min(two.count);
     if !are_equal(a, one.start, b, two.start, shared, first, second) {
         return false;
+    }
+    if one.count == two.count {
+        return true;
     }
     if !are_zero(a, behind(one.start, shared), one.count - shared, first) {
         return false;

@@ -16,8 +16,19 @@ use Rattle.capn_same.proofs.objects.+sameness.Goals as goal
 
 -- ---- a slot
 
-pub is_same_slot-target_at-other-requires-clause-found : goal.is_same_slot-target_at-other-requires-clause-found
-is_same_slot-target_at-other-requires-clause-found g t c =
+pub is_same_slot-target_at-requires-in-Nil-clause-found :
+    goal.is_same_slot-target_at-requires-in-Nil-clause-found
+is_same_slot-target_at-requires-in-Nil-clause-found g t c =
+    found c.args.b.now c.args.beside c.requires.two.value c.requires.two.is.at
+
+pub is_same_slot-target_at-requires-in-Cap-clause-found :
+    goal.is_same_slot-target_at-requires-in-Cap-clause-found
+is_same_slot-target_at-requires-in-Cap-clause-found g t c =
+    found c.args.b.now c.args.beside c.requires.two.value c.requires.two.is.at
+
+pub is_same_slot-target_at-requires-in-Content-clause-found :
+    goal.is_same_slot-target_at-requires-in-Content-clause-found
+is_same_slot-target_at-requires-in-Content-clause-found g t c =
     found c.args.b.now c.args.beside c.requires.two.value c.requires.two.is.at
 
 pub is_same_slot-target_at-requires-clause-found : goal.is_same_slot-target_at-requires-clause-found
@@ -27,24 +38,26 @@ is_same_slot-target_at-requires-clause-found g t c =
 pub is_same_slot-is_same_content-requires : goal.is_same_slot-is_same_content-requires
 is_same_slot-is_same_content-requires g t c κs within =
     let x = c.in-Content in
-    let y = c.in-Content-other in
+    let y = c.in-Content-target_at in
     let one = has-content c.args.a.now c.args.at c.args.depth x.segment x.start x.pads x.shape c.requires.one
     (c.target_at.ensures.found ∙ ap Ok x.is) in
     let two = has-content c.args.b.now c.args.beside c.args.depth y.elsewhere y.begin y.pads y.form c.requires.two
-    (c.target_at-other.ensures.found ∙ ap Ok y.is) in
+    (c.target_at-in-Content.ensures.found ∙ ap Ok y.is) in
     (omega arith, (within.0, (within.1.0, (within.1.1.0, (within.1.1.1, (one, two))))))
 
-pub is_same_slot-returns-in-Content-other-clause-same : goal.is_same_slot-returns-in-Content-other-clause-same
-is_same_slot-returns-in-Content-other-clause-same g t c v w h j =
+pub is_same_slot-returns-in-Content-target_at-clause-same :
+    goal.is_same_slot-returns-in-Content-target_at-clause-same
+is_same_slot-returns-in-Content-target_at-clause-same g t c v w h j =
     let x = c.in-Content in
-    let y = c.in-Content-other in
+    let y = c.in-Content-target_at in
     c.is_same_content.ensures.same v w
     (inside-of c.args.a.now c.args.at x.segment x.start x.pads x.shape (c.target_at.ensures.found ∙ ap Ok x.is) v h.at)
     (inside-of c.args.b.now c.args.beside y.elsewhere y.begin y.pads y.form
-    (c.target_at-other.ensures.found ∙ ap Ok y.is) w j.at)
+    (c.target_at-in-Content.ensures.found ∙ ap Ok y.is) w j.at)
 
-pub is_same_slot-returns-in-Content-other-clause-first : goal.is_same_slot-returns-in-Content-other-clause-first
-is_same_slot-returns-in-Content-other-clause-first g t c v h =
+pub is_same_slot-returns-in-Content-target_at-clause-first :
+    goal.is_same_slot-returns-in-Content-target_at-clause-first
+is_same_slot-returns-in-Content-target_at-clause-first g t c v h =
     let x = c.in-Content in
     let r = c.is_same_content.ensures.first v
     (inside-of c.args.a.now c.args.at x.segment x.start x.pads x.shape (c.target_at.ensures.found ∙ ap Ok x.is) v h.at)
@@ -52,13 +65,14 @@ is_same_slot-returns-in-Content-other-clause-first g t c v h =
     let o = c.target_at.ensures.reads in
     omega arith
 
-pub is_same_slot-returns-in-Content-other-clause-second : goal.is_same_slot-returns-in-Content-other-clause-second
-is_same_slot-returns-in-Content-other-clause-second g t c w j =
-    let y = c.in-Content-other in
+pub is_same_slot-returns-in-Content-target_at-clause-second :
+    goal.is_same_slot-returns-in-Content-target_at-clause-second
+is_same_slot-returns-in-Content-target_at-clause-second g t c w j =
+    let y = c.in-Content-target_at in
     let r = c.is_same_content.ensures.second w
     (inside-of c.args.b.now c.args.beside y.elsewhere y.begin y.pads y.form
-    (c.target_at-other.ensures.found ∙ ap Ok y.is) w j.at) in
-    let o = c.target_at-other.ensures.reads in
+    (c.target_at-in-Content.ensures.found ∙ ap Ok y.is) w j.at) in
+    let o = c.target_at-in-Content.ensures.reads in
     omega arith
 
 -- ---- content
@@ -218,6 +232,20 @@ are_same_slots-loop-i-preserved g t c =
           let o = c.tick-in-loop-i.ensures in
           omega arith;
     }
+
+pub are_same_slots-returns-then-one-two-clause-same : goal.are_same_slots-returns-then-one-two-clause-same
+are_same_slots-returns-then-one-two-clause-same g t c ss ts h j =
+    let a = c.args in
+    let i = c.loop-i.i in
+    let ge = c.loop-i-test.false in
+    let le = c.loop-i.auto.i-end in
+    let m = c.min-shared.ensures in
+    let e = c.if-one-two.true in (
+      (λ o. both-zero a.a.now a.b.now a.one.start a.two.start a.one.count a.two.count c.min-shared.result i ss ts h j
+          c.min-shared.ensures (omega arith) (c.loop-i.invariant.same ss ts h j) (λ k below. absurd (omega arith))
+          (λ k below. absurd (omega arith))),
+      (λ q. refl),
+    )
 
 pub are_same_slots-returns-then-not-are_zero-clause-same :
     goal.are_same_slots-returns-then-not-are_zero-clause-same
