@@ -11,7 +11,7 @@ use capn_words::{Memory, Watched};
 use std::alloc::AllocError;
 use std::error::Error;
 use std::fmt;
-use std::io::Write;
+use std::io::{self, Write};
 
 /// The reason why a run ends before it has written the messages of its complete input. Lines are counted from 1, from
 /// the beginning of the input.
@@ -130,5 +130,13 @@ impl From<AllocError> for MakeFault {
 
     fn from(_error: AllocError) -> MakeFault {
         MakeFault::Memory
+    }
+}
+
+impl From<io::Error> for MakeFault {
+    ghost from_gives = { λ _ e. e ≡ faults.Io };
+
+    fn from(_error: io::Error) -> MakeFault {
+        MakeFault::Io
     }
 }

@@ -11,7 +11,6 @@ mod input;
 pub mod laws;
 mod make_run;
 mod next_text;
-mod output;
 mod progress;
 mod sink;
 mod texts_input;

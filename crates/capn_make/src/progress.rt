@@ -11,7 +11,6 @@ ghost use Rattle.capn_make.specs.inner.SinkRun.{Feeds, Writes};
 use crate::end_line::is_due;
 use crate::fault::MakeFault;
 use crate::laws::refusing;
-use crate::output::write_all;
 use crate::whole_texts::make_texts;
 use capn_canon::Form;
 use capn_text::{Texts, lines_in};
@@ -167,7 +166,7 @@ impl<A: Allocator + Copy> Progress<A> {
             × (self.new.form ≡ self.old.form) }
     {
         if let Form::Stream | Form::Packed = self.form {
-            write_all(writer, &self.made)?;
+            writer.write_all(&self.made)?;
             self.made.clear();
         }
         Ok(())
@@ -223,7 +222,7 @@ impl<A: Allocator + Copy> Progress<A> {
         }
         let mut cut = false;
         match self.go_on(&mut cut) {
-            Ok(()) => write_all(writer, &self.made),
+            Ok(()) => Ok(writer.write_all(&self.made)?),
             Err(fault) => match fault {
                 MakeFault::Memory => Err(MakeFault::Memory),
                 other => {

@@ -1,7 +1,6 @@
 -- Values of different kinds are not the same, and lists of different lengths are not the same. (For `is_same_slot` and
 -- `is_same_content`.)
 use Rattle.std.proofs.Common.{◌≡◌, ℕ, suc, List, length, refl, ap}
-use Rattle.capn_words.specs.declared.pointer.Width.TheVariants.{Rows}
 use Rattle.capn_value.specs.Tree.{Tree, nil, node, voids, numbers, links, rows, cap, Trees, no_trees, tree, Bodies}
 use Rattle.capn_value.specs.Tree.{no_bodies, body, count, count_rows}
 use Rattle.capn_value.specs.Fits.{elements}
