@@ -1,12 +1,10 @@
 -- Lemmas on the content of a writer after a flush or a write. (For `tell_said`.)
-use Rattle.std.proofs.Common.{◌≡◌, ◌∙◌, ℕ, List, length, Bool, true, false, Option, Some, None, Result, Ok, Err, OnOk}
-use Rattle.std.proofs.Common.{IsErrOf, is_err, ◌||◌, ◌↔◌, refl, sym, subst}
+use Rattle.std.proofs.Common.{◌≡◌, ◌∙◌, ℕ, List, length, Bool, false, Option, Some, None, Result, Ok, Err, OnOk}
+use Rattle.std.proofs.Common.{is_err, ◌||◌, sym, subst}
 use Rattle.std.proofs.Math.Seq.{take-length}
 use Rattle.std.specs.Io.KnownBytes.{Appends, Keeps}
 use Rattle.capn_words.specs.Watched.{HasBegun}
 use Rattle.capn_serve.specs.Line.{WritesLine}
-use Rattle.capn_commands.specs.declared.fault.ToolFault.{ToolFault}
-use Rattle.capn_commands.specs.declared.fault.ToolFault.TheVariants as faults
 
 pub kept : (c m d : Option (List ℕ)) (text : List ℕ) → Keeps m d → Appends c m text → Appends c d text
 kept None m d text k a = tt
@@ -16,13 +14,6 @@ kept (Some x) (Some y) (Some z) text k a = k ∙ a
 
 pub begun_all : (c d : Option (List ℕ)) (text : List ℕ) → Appends c d text → HasBegun c d text
 begun_all c d text a = (length text, subst (λ (t : List ℕ). Appends c d t) (sym (take-length text)) a)
-
-abbrev done : Result (Unit {0}) ToolFault
-done = Ok tt
-
-pub sound : (failed : Bool) → (IsErrOf done faults.Io ↔ (failed ≡ true)) → failed ≡ false
-sound false io = refl
-sound true io = absurd (let bad = io.1 refl in cc)
 
 pub told : {T E : Type 0} (text : List ℕ) (c d : Option (List ℕ)) (old new : Bool) (r : Result T E) → old ≡ false
     → OnOk r (Appends c d text) → HasBegun c d text → new ≡ (old || is_err r) → WritesLine text c d new

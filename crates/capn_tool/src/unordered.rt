@@ -10,7 +10,7 @@ ghost use Rattle.capn_tool.specs.Course.{course};
 ghost use Rattle.capn_tool.specs.Unordered.{EndsUnordered, ShowsHelp, ShowsVersion, WritesText};
 ghost use Rattle.capn_args.specs.Usage.{WishesHelp, error_of};
 
-use crate::output::{flush_after, write_all};
+use crate::output::flush_after;
 use capn_args::{Usage, VERSION_LINE};
 use capn_commands::{ToolFault, end};
 use capn_words::Watched;
@@ -32,7 +32,7 @@ fn show_help<W: Write>(
         (course (W.contents (inner_of writer.old)) (W.contents (inner_of writer.new)) (has_failed writer.new)) result }
 {
     let text = usage.text(alloc)?;
-    write_all(writer, text.as_bytes())?;
+    writer.write_all(text.as_bytes())?;
     flush_after(Ok(()), ToolFault::Io, writer)
 }
 
@@ -42,7 +42,7 @@ fn show_version<W: Write>(writer: &mut Watched<W>) -> Result<(), ToolFault>
     ensures { ShowsVersion
         (course (W.contents (inner_of writer.old)) (W.contents (inner_of writer.new)) (has_failed writer.new)) result }
 {
-    write_all(writer, VERSION_LINE)?;
+    writer.write_all(VERSION_LINE)?;
     flush_after(Ok(()), ToolFault::Io, writer)
 }
 

@@ -7,10 +7,12 @@ pub returns-in_err-write_all : goal.returns-in_err-write_all
 returns-in_err-write_all g c =
     let help = subst IsHelp (sym c.as_bytes.ensures.value) (c.in_ok-text.ensures c.requires.help) in
     let wrote = c.in_err-write_all.ensures in
-    help_not_shown _ _ _ _ _ _ help wrote.begun wrote.io wrote.only c.from_residual-in_err-write_all.ensures
+    help_not_shown _ _ _ _ _ c.from_residual-in_err-write_all.result help wrote.begun c.requires.fine wrote.failed
+    c.from_residual-in_err-write_all.ensures.1
 
 pub returns : goal.returns
 returns g c =
     let help = subst IsHelp (sym c.as_bytes.ensures.value) (c.in_ok-text.ensures c.requires.help) in
     let wrote = c.in_ok-write_all.ensures in
-    help_shown _ _ _ _ _ _ _ help wrote.ok wrote.io c.flush_after.ensures.kept c.flush_after.ensures.ended
+    help_shown _ _ _ _ _ _ _ _ help wrote.ok c.requires.fine wrote.failed c.flush_after.ensures.kept
+    c.flush_after.ensures.ended

@@ -4,9 +4,9 @@ use Rattle.capn_tool.proofs.unordered.show_version.Goals as goal
 pub returns-in_err-write_all : goal.returns-in_err-write_all
 returns-in_err-write_all g c =
     let wrote = c.in_err-write_all.ensures in
-    version_not_shown _ _ _ _ _ wrote.begun wrote.io wrote.only c.from_residual.ensures
+    version_not_shown _ _ _ _ c.from_residual.result wrote.begun c.requires wrote.failed c.from_residual.ensures.1
 
 pub returns : goal.returns
 returns g c =
     let wrote = c.in_ok-write_all.ensures in
-    version_shown _ _ _ _ _ _ wrote.ok wrote.io c.flush_after.ensures.kept c.flush_after.ensures.ended
+    version_shown _ _ _ _ _ _ _ wrote.ok c.requires wrote.failed c.flush_after.ensures.kept c.flush_after.ensures.ended
