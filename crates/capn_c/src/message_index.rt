@@ -154,6 +154,7 @@ impl MessageTask<Global> for WriteIndex<'_> {
         ((after.out.ghost_name ≡ task.out.ghost_name) × (after.report.ghost_name ≡ task.report.ghost_name))
         × IsIndexedOf task.form m limits task.out.now after.out.now after.report.now r };
 
+    #[inline(always)]
     fn run<S: Space>(
         &mut self,
         alloc: Global,
