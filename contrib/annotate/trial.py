@@ -79,7 +79,7 @@ def double():
 
 
 def many(count):
-    """Returns a message of a list of structs with a text each, with `count` words in all."""
+    """Returns a message of `count` words. Its root is a list of structs, and each struct has a text."""
     rows = (count - 2) // 3
     words = [list_of(7, 2 * rows, 0), rows << 2 | 1 << 32 | 1 << 48] + [0] * (3 * rows)
     for i in range(rows):
@@ -248,7 +248,7 @@ def nasty():
 
 
 def large(count):
-    """Makes pages of messages of `count` words. Returns the page of each, and prints how long it took."""
+    """Makes pages of two messages of `count` words each. Returns both pages, and prints how long each page took."""
     made = {}
     for name, message in [("texts", many(count)), ("numbers", numbers(count))]:
         lines = annotated(message)
@@ -276,7 +276,7 @@ def large(count):
 
 
 class Browser:
-    """Chromium without a window, which is told what to do over a pipe."""
+    """Chromium without a window. The test sends commands to it over a pipe."""
 
     def __init__(self, program, folder):
         theirs, mine = os.pipe(), os.pipe()

@@ -165,7 +165,8 @@ class Archive:
 
     def ends(self, at: int) -> list[int]:
         """Returns the ends of the messages in a row that begins at byte `at`. The ends come from the messages' segment
-        tables. The row is shorter than wanted only if the archive ends."""
+        tables. Returns no ends if `end` returns 0 for a message. Otherwise the row has fewer messages than `self.row`
+        only if the archive ends first."""
         ends: list[int] = []
         while len(ends) < self.row and at < self.size:
             at = self.end(at)
@@ -203,9 +204,9 @@ class Archive:
         return 0
 
     def between(self, bad: Message, good: int) -> Iterator[Span]:
-        """Yields the bytes from a bad message up to the next message that is like the sample. If the segment tables
-        lead from the one exactly to the other, it is known where each message between them begins. Then an accepted
-        message between them is kept, even if it isn't like the sample."""
+        """Yields the bytes from a bad message up to the next message that is like the sample. The segment tables may
+        lead from the bad message exactly to the good one. Then they say where each message between these two begins,
+        and an accepted message between them is kept, even if it isn't like the sample."""
         end = bad.begin
         with closing(listed(self.path, bad.begin)) as found:
             for message in found:

@@ -36,7 +36,7 @@ class Part:
 
 @dataclass(frozen=True)
 class Message:
-    """A message: where it begins and ends, and its digest. A message without a digest has the error instead."""
+    """A message: where it begins and ends, and its digest. If a message has no digest, `refusal` says why."""
 
     begin: int
     end: int

@@ -319,7 +319,7 @@ static void lines() {
     want("the lines of a text", told(capn::annotate(invoice)) == "8 0:0 1 1 pointer\n16 0:1 1 1 data of 0:0\n"
                                                                  "24 0:2 1 1 pointer of 0:0\n"
                                                                  "32 0:3 1 1 list of 0:2\n");
-    /* A text was set twice, and the first one was left where it was. */
+    /* A writer set a text twice. The message still has the words of the first text, but no pointer leads to them. */
     const std::string twice = words({1ull << 48, 5 | 50ull << 32, 0x616441, 0x6563617247});
     want("what nothing reaches", told(capn::annotate(twice, form::bare)) == "0 0:0 1 1 pointer\n"
                                                                             "8 0:1 1 1 pointer of 0:0\n"
@@ -341,7 +341,7 @@ static void lines() {
     const std::string padded = words({1 | 2ull << 32 | 17ull << 35, 1, 0, 9ull << 56});
     want("padding", told(capn::annotate(padded, form::bare))
                         == "0 0:0 1 1 pointer\n8 0:1 3 1 list of 0:0 not zero 2 padding\n");
-    /* Each word of this message has a line: more lines than there is room for at first. */
+    /* capn::annotate first tries a small array of lines. This message has more lines, since each word has a line. */
     std::string wide = words({5000ull << 48});
     for (int i = 0; i < 5000; i++) wide += words({0xfffffffc});
     const auto many = capn::annotate(wide, form::bare);
@@ -849,7 +849,7 @@ static void ranges() {
 #endif
 }
 
-/* An object is empty after it was moved from. */
+/* If an object is moved into another object, the first one is empty afterwards. */
 static void moves() {
     capn::index from = capn::index::of(one);
     const capn::index to = std::move(from);

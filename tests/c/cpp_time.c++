@@ -64,7 +64,7 @@ void times(const std::vector<std::uint64_t> &words) {
     const capn::bytes bare(canonical);
     beside("check", size, [&] { return capn_check(CAPN_STREAM, data, size, &limits, &report) + report.paid; },
            [&] { return capn::check(message, capn::form::stream, limits).paid; });
-    /* A vector clears its bytes before the call writes them, which takes long for large messages. So the calls in C
+    /* A vector clears its bytes before the call writes them. For large messages, clearing takes long. So the calls in C
      * write into a vector, too. `canonical_into` clears nothing. */
     beside("canonical", size,
            [&] {

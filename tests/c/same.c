@@ -224,7 +224,7 @@ static void store(const char *line, uint8_t *pages) {
     inputs[count++] = (struct input){kept, size, 0, {0, 0, 0, 0, 0, 0}, NULL, 0};
 }
 
-/* Returns a copy of an input. The copy ends where `pages` end. */
+/* Copies the bytes of an input to the end of the block `pages`. Returns the input with these bytes. */
 static struct input moved(const struct input *in, uint8_t *pages) {
     struct input out = *in;
     uint8_t *to = at_end(pages, in->size);

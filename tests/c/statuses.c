@@ -126,7 +126,7 @@ static void reading(void) {
     read_as("2 words", CAPN_STREAM, "\0\0\0\0\2\0\0", 8, &one, CAPN_TOO_MANY_WORDS, 2);
     read_as("a cut frame", CAPN_STREAM, message, 15, &usual, CAPN_FRAME_CUT, 0);
     read_as("bytes after the frame", CAPN_STREAM, message, 24, &usual, CAPN_TRAILING, 16);
-    /* The reported offset is 24, in the unpacked bytes. The packed message has 8 bytes. */
+    /* The reported offset counts the unpacked bytes. So it is 24, although the packed message has only 8 bytes. */
     read_as("words after a packed frame", CAPN_PACKED, "\x10\2\x10\1\1\5\0", 8, &usual, CAPN_TRAILING, 24);
     read_as("a packed frame of too many segments", CAPN_PACKED, "\3\0\x10", 3, &usual, CAPN_TOO_MANY_SEGMENTS, 4097);
     read_as("a packed frame that is cut", CAPN_PACKED, "\x10\2\x10\1", 4, &usual, CAPN_FRAME_CUT, 0);
@@ -181,9 +181,10 @@ static void called(void) {
     is("a struct with a zero word", capn_is_canonical(message + 8, 16, &usual, &report), CAPN_NOT_CANONICAL);
 }
 
-/* Makes calls while every allocation fails. Packed bytes give CAPN_MEMORY, as do a stream of 65 segments and the calls
- * that hash, pack and unpack. For a message in one or two segments, the calls for the canonical bytes and for the index
- * succeed, because they don't allocate. The call for a digest succeeds if the message itself is canonical. */
+/* Makes calls while every allocation fails. Calls on packed bytes or on a stream of 65 segments return CAPN_MEMORY. So
+ * do the calls that pack, unpack or show. For a message in one or two segments, the calls for the canonical bytes and
+ * for the index succeed, because they don't allocate. The call for a digest succeeds only if the message itself is
+ * canonical. */
 static void without_memory(void) {
     const uint8_t many[272] = {64, 0, 0, 0, 1}, two[24] = {1, 0, 0, 0, 1}, packed[9] = {0x10, 1, 0, 0};
     const uint8_t loose[16] = {0, 0, 0, 0, 1};

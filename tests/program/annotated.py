@@ -20,14 +20,14 @@ import model
 KINDS = ["pointer", "null", "pad", "tag", "data", "list", "slack", "unreached"]
 # The greatest number of bytes of a list that a line quotes.
 QUOTED = 32
-# A line that covers several words ends at the first word that differs from the word before in one of these: the kind,
-# the visit to which the word belongs, how often it is covered. Lines of the kinds in ALONE have one word.
+# All words of a line have the same kind, belong to the same visit, and are covered equally often. A line ends before
+# the first word that differs in one of these. Lines of the kinds in ALONE have one word.
 ALONE = ("pointer", "pad", "tag")
 
 # An object, or a landing pad: the path to the pointer that leads to it, the segment and the index of its first word,
 # and its shape. The shape of a struct is ("struct", words, slots), that of a list is ("list", code, count), that of a
 # list of structs is ("rows", words of the list, structs, words, slots), and that of a landing pad is ("pad", words).
-# Two parts are the same if they differ in their path alone.
+# Two parts with different paths count as the same if all else is equal.
 Part = collections.namedtuple("Part", "way segment begin shape")
 MESSAGE = Part((), None, None, ("message",))
 
@@ -37,8 +37,9 @@ Line = collections.namedtuple("Line", "offset place bytes times kind way text")
 
 class Cover:
     """The cover of an accepted message: which visits cover which words. Words are numbered from the first segment on.
-    For each word, `times` has the number of times that it is covered, `parts` the part that covers it first, or None,
-    `roles` its role in this part, and `overlaps` whether another part covers it, too."""
+    These lists have an item for each word. `times` says how often the word is covered. `parts` has the part that covers
+    the word first, or None. `roles` has the role of the word in this part. `overlaps` says whether another part covers
+    the word, too."""
 
     def __init__(self, segments):
         self.segments = [struct.unpack(f"<{len(one) // 8}Q", one) for one in segments]
@@ -117,8 +118,8 @@ class Cover:
         return self.segments[part.segment][part.begin + at]
 
     def kept(self, part):
-        """Returns how many data words and slots of a struct, or of each struct of a list, are in the canonical
-        bytes."""
+        """Returns how many data words and how many slots a struct has in the canonical bytes. For a list of structs,
+        each struct has as many."""
         if part.shape[0] == "struct":
             rows, data, slots, first = 1, *part.shape[1:], 0
         else:
@@ -190,7 +191,7 @@ class Notes:
         return inside >= words if inside < data else inside - data >= links
 
     def way(self, segment, at):
-        """Returns the path of a word: of a slot its own path, and of another word the path of its struct or list."""
+        """Returns the path of a word. A slot has its own path. Any other word has the path of its struct or list."""
         number = self.cover.starts[segment] + at
         part, role = self.cover.parts[number], self.cover.roles[number]
         if part is None:
@@ -225,8 +226,8 @@ class Notes:
                     "" if way is None else explained.dotted(way), text)
 
     def text(self, segment, at, end, kind):
-        """Returns the text of a line, without the endings about words that canonical bytes leave out and about
-        overlaps. Also returns the number that the line adds to the count `hidden`."""
+        """Returns the text of a line, and the number that the line adds to the count `hidden`. The text lacks its two
+        endings. One is about words that canonical bytes leave out, and the other is about overlaps."""
         number, size = self.cover.starts[segment] + at, end - at
         word, part = self.value(number), self.cover.parts[number]
         if kind == "null":

@@ -302,8 +302,7 @@ def canonical(value):
 # Dumps.
 
 
-# The code points that a text between quotes has as numbers. They are invisible, or they change the direction of the
-# text.
+# `show --text` prints these code points as numbers. They are invisible, or they change the direction of the text.
 HIDDEN = [
     *[(it, it) for it in (0xAD, 0x61C, 0x180E, 0xFEFF)],
     (0x200B, 0x200F), (0x2028, 0x202E), (0x2060, 0x206F), (0xFFF9, 0xFFFB), (0xE0000, 0xE007F),

@@ -81,8 +81,8 @@ def streamed(**options):
 
 
 def of_words(count):
-    """Returns a message with a segment of `count` words. Its root is a struct without pointers. A small number and the
-    bytes of a text take turns as the words of the struct."""
+    """Returns a message with a segment of `count` words. Its root is a struct without pointers. Every other word of the
+    struct is a small number, and the words between them have the bytes of a text."""
     segment = [count - 1 << 32, *((at, int.from_bytes(b"abcdefg\0", "little"))[at % 2] for at in range(count - 1))]
     return b"".join(word.to_bytes(8, "little") for word in [count << 32, *segment])
 

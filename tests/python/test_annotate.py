@@ -32,7 +32,7 @@ MESSAGES = [
     ("0000000004000000" "0000000001000100" "0500000000000000" "010000001a000000" "6162000000000000", "stream",
      [line(8, ROOT, "POINTER", None), line(16, (0, 1), "DATA", ROOT), line(24, (0, 2), "POINTER", ROOT),
       line(32, (0, 3), "LIST", (0, 2))]),
-    # A writer set a text twice, and left the first one where it was.
+    # A writer set a text twice. The message still has the word of the first text, but no pointer leads to it.
     ("0000000000000100" "0500000032000000" "4164610000000000" "4772616365000000", "bare",
      [line(0, ROOT, "POINTER", None), line(8, (0, 1), "POINTER", ROOT),
       line(16, (0, 2), "UNREACHED", None, times=0), line(24, (0, 3), "LIST", (0, 1))]),
@@ -42,13 +42,14 @@ MESSAGES = [
       line(32, (1, 1), "DATA", ROOT, cut=1, not_zero=0), line(40, (1, 2), "POINTER", ROOT),
       line(48, (1, 3), "POINTER", ROOT), line(56, (1, 4), "NULL", ROOT, cut=1, not_zero=0),
       line(64, (1, 5), "LIST", (1, 2), times=2)]),
-    # Two structs of a list. The second one is also a list of u32. A word after them belongs to the list.
+    # A list of two structs. The word of the second struct is also a list of u32. The list of structs has one word more
+    # than its structs.
     ("0000000000000200" "050000001f000000" "0900000014000000" "0800000001000000" "0700000000000000" "0900000000000000"
      "ffffffffffffffff", "bare",
      [line(0, ROOT, "POINTER", None), line(8, (0, 1), "POINTER", ROOT), line(16, (0, 2), "POINTER", ROOT),
       line(24, (0, 3), "TAG", (0, 1)), line(32, (0, 4), "DATA", (0, 1)),
       line(40, (0, 5), "DATA", (0, 1), times=2, overlap=True), line(48, (0, 6), "SLACK", (0, 1))]),
-    # A list of 17 bytes. A byte after them isn't zero.
+    # A list of 17 bytes. In its last word, a byte after the list isn't zero.
     ("010000008a000000" "6161616161616161" "0000000000000000" "6100000000000009", "bare",
      [line(0, ROOT, "POINTER", None), line(8, (0, 1), "LIST", ROOT, words=3, not_zero=2, padding=True)]),
     ("0000000000000000", "bare", [line(0, ROOT, "NULL", None, not_zero=0)]),
@@ -59,7 +60,8 @@ MESSAGES = [
 
 
 class Slots(annotated.Cover):
-    """A `Cover` that also knows the place of each pointer that was followed, by the number of its visit."""
+    """A `Cover` that also has the places of pointers. The key is the number of a visit, and the value is the place of
+    the pointer that this visit follows."""
 
     def __init__(self, segments):
         self.slots = {}
@@ -71,8 +73,8 @@ class Slots(annotated.Cover):
 
 
 def wanted(segments, begin):
-    """Returns the lines of a valid message, from those that the model of the command makes. `begin` is the offset of
-    the first segment."""
+    """Returns the lines that `capn.annotate` has to return for a valid message. They are made from the lines of the
+    Python model. `begin` is the offset of the first segment."""
     cover, found = Slots(segments), []
     for one in annotated.Notes(segments, begin).lines:
         place = re.fullmatch(r"(\d+):(\d+)(?:-(\d+))?", one.place)

@@ -134,7 +134,7 @@ class Memory(unittest.TestCase):
         self.assertRegex(child(START, LITTLE, "capn.departure(PACKED, 'packed')"), "^MemoryError")
 
     def test_there_is_none_for_a_way(self):
-        # The first search for the path of the error is out of memory. A second search, with enough memory, finds the
+        # The first search for the path of the error runs out of memory. A second search, with enough memory, finds the
         # path.
         self.assertEqual(child(START, REFUSED, LITTLE, WAY), f"MemoryError: capn: {TEXT}\n() 8\n")
 

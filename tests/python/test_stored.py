@@ -34,8 +34,8 @@ def digits(data):
 
 
 def hashed(data, form):
-    """Computes what `capn hash` does for an input. Returns the exit status, the output and the error as one text. The
-    output has a line for each message before the first rejected one."""
+    """Calls the package in order to do what `capn hash` does. Returns the exit status, the output and the error as one
+    text. The output has a line for each message before the first rejected one."""
     lines = ""
     try:
         for message in (parted(data) if form == "stream" else [data]):

@@ -402,8 +402,8 @@ class HowMany(unittest.TestCase):
         self.assertRaises(TypeError, capn.read, data, most_slots=1.0)
 
     def test_few_bytes_have_many_slots(self):
-        # Three lists of 193 pointers each. Each pointer of the first two lists refers to the next list. So the
-        # traversal visits a list once for each pointer to it.
+        # The message has three lists of 193 pointers each. Each pointer of the first two lists refers to the next list.
+        # The traversal visits a list once for each pointer to it.
         count, words = 193, [1 | 6 << 32 | 193 << 35]
         for _ in range(2):
             words += [count - 1 - i << 2 | 1 | 6 << 32 | count << 35 for i in range(count)]

@@ -92,7 +92,8 @@ static void change(capnp::AnyPointer::Builder to, unsigned depth) {
       break;
     }
     case 4: {
-      // An older schema made the struct, and a newer one with more fields writes to it.
+      // Does what two programs do: one makes the struct with an older schema, and the other writes to it with a newer
+      // schema, which has more fields.
       fill(to.initAsAnyStruct(1, 1), depth ? depth - 1 : 0);
       auto larger = to.getAs<capnp::AnyStruct>();
       capnp::MallocMessageBuilder copy;
