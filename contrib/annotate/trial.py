@@ -113,7 +113,7 @@ def paged(lines, message=None):
 
 
 class Elements(html.parser.HTMLParser):
-    """The elements of a page: words, lines, folds and scripts. `unfold` also reads what is folded."""
+    """The elements of a page: words, lines, folds and scripts. If `unfold` is set, also those inside the folds."""
 
     def __init__(self, text, unfold=True):
         super().__init__()
@@ -216,7 +216,7 @@ def pages():
 
 
 def nasty():
-    """Makes pages of texts and lines that have the characters of HTML in them. Returns one of the pages."""
+    """Makes pages of messages and lines that contain parts of HTML. Returns one of the pages."""
     message = b"".join(map(text_of, NASTY))
     lines = annotated(message)
     _, text, _ = paged(lines, message)
@@ -404,7 +404,7 @@ CONTRAST = """
 
 
 def clicked(browser, scheme):
-    """Clicks through the page of the message that has every kind."""
+    """Clicks through the page of the message that has words of every kind."""
     browser.click("#b32")
     want(f"{scheme}: a click marks the pointer", browser.until(f"{AT} == 'b32'"), browser.value(AT))
     want(f"{scheme}: and its object", browser.until(f"{TO} == 'b72'"), browser.value(TO))

@@ -46,8 +46,8 @@ def of_list(items, most, of_each):
 
 
 def text_of(found):
-    """Returns the bytes of a text, without its last zero byte. Bytes that aren't UTF-8 are returned, too, as the C
-    library does."""
+    """Returns the bytes of a text, without its last zero byte. Like the C library, it also returns bytes that aren't
+    UTF-8."""
     if not isinstance(found, (capn.Null, capn.Bytes)):
         raise capn.Mismatch(f"there is no text, but {found!r}")
     try:

@@ -484,7 +484,8 @@ class AfterAnException(unittest.TestCase):
                     self.assertRaises(StopIteration, next, found)
 
     def pipes(self):
-        """Yields pipes, buffered and unbuffered, each with the function that packs a message for it."""
+        """Yields pipes, some of them buffered. With each pipe comes a function that packs a message for the pipe, or
+        leaves it unpacked."""
         for buffering in 0, -1:
             for packed in False, True:
                 read, write = os.pipe()
