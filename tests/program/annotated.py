@@ -88,8 +88,8 @@ class Cover:
             size = data + slots
             part = Part(way, segment, begin, ("rows", count, rows, data, slots))
             self.cover(part, visit, segment, begin, 1, "tag")
-            # The words of all structs are covered before the pointers in the structs are visited. A visit that is
-            # later in preorder covers its words later.
+            # The words of all structs of the list are covered before the pointers in these structs are visited. If a
+            # visit is later in preorder, it covers its words later.
             for i in range(rows if size else 0):
                 self.cells(part, visit, begin + 1 + i * size, data, slots)
             self.cover(part, visit, segment, begin + 1 + rows * size, count - rows * size, "slack")
