@@ -180,7 +180,7 @@ enum capn_line_kind {
 
 /* The flags of a line. */
 enum capn_line_flag {
-    CAPN_LINE_OVERLAP = 1, /* in these words, objects or landing pads overlap that are not the same */
+    CAPN_LINE_OVERLAP = 1, /* different objects or landing pads overlap in these words */
     CAPN_LINE_PADDING = 2  /* the line has the last word of a list, whose padding is not zero */
 };
 
@@ -193,7 +193,7 @@ typedef struct capn_line {
     uint32_t word;         /* and its number in that segment */
     uint32_t words;        /* 1 or more */
     uint32_t times;        /* how often objects and landing pads cover each of the words; CAPN_LINE_UNREACHED: 0 */
-    uint32_t slot_segment; /* the pointer to whose object or landing pad the words belong: its segment, */
+    uint32_t slot_segment; /* the pointer to the object or landing pad that has the words: its segment, */
     uint32_t slot_word;    /* and its word in that segment; both are 0 for the root pointer and CAPN_LINE_UNREACHED */
     uint32_t cut;          /* how many of the words canonical bytes leave out at the end of a struct */
     uint32_t not_zero;     /* how many of the words are not zero */

@@ -666,12 +666,12 @@ struct line {
     place first;               /* the place of the first word */
     std::uint32_t words;       /* how many there are, 1 or more */
     std::uint32_t times;       /* how often objects and landing pads cover each of them; 0 for `unreached` */
-    std::optional<place> slot; /* the pointer to whose object or landing pad they belong; nothing for the root pointer
+    std::optional<place> slot; /* the pointer to the object or landing pad that has them; nothing for the root pointer
                                   and for `unreached` */
     std::uint32_t cut;         /* how many of them canonical bytes leave out */
     std::uint32_t not_zero;    /* how many of them aren't zero */
     line_kind kind;
-    bool overlap; /* objects or landing pads overlap in them that aren't the same */
+    bool overlap; /* different objects or landing pads overlap in them */
     bool padding; /* the line has the last word of a list, whose padding isn't zero */
 };
 

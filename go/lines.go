@@ -51,7 +51,7 @@ type Line struct {
 	Cut         uint32 // how many of the words canonical bytes leave out
 	NotZero     uint32 // how many of the words are not zero
 	Kind        LineKind
-	Overlap     bool // whether objects or landing pads overlap in the words that are not the same
+	Overlap     bool // whether different objects or landing pads overlap in the words
 	Padding     bool // whether the line has the last word of a list, whose padding is not zero
 }
 

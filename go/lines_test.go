@@ -68,7 +68,7 @@ func TestAnnotate(t *testing.T) {
 			changed(lineAt(40, 0, 5, LineData, 1), func(l *Line) { l.Times, l.Overlap = 2, true }),
 			lineAt(48, 0, 6, LineSlack, 1),
 		}},
-		// A list of 17 bytes. A byte after them isn't zero.
+		// A list of 17 bytes. In its last word, a byte after the list isn't zero.
 		{"several words and padding", "010000008a000000616161616161616100000000000000006100000000000009", Bare, []Line{
 			root(0), changed(lineAt(8, 0, 1, LineList, 0), func(l *Line) { l.Words, l.NotZero, l.Padding = 3, 2, true }),
 		}},

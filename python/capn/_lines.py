@@ -52,7 +52,7 @@ class Line(NamedTuple):
     times: int
     """How often objects and landing pads cover each of the words; 0 for `LineKind.UNREACHED`."""
     slot: tuple[int, int] | None
-    """The pointer to whose object or landing pad the words belong: its segment, and its word in that segment. None for
+    """The pointer to the object or landing pad that has the words: its segment, and its word in that segment. None for
     the root pointer, and for `LineKind.UNREACHED`."""
     cut: int
     """How many of the words canonical bytes leave out."""
@@ -61,7 +61,7 @@ class Line(NamedTuple):
     kind: LineKind
     """What the words are."""
     overlap: bool
-    """Whether objects or landing pads overlap in the words that aren't the same."""
+    """Whether different objects or landing pads overlap in the words."""
     padding: bool
     """Whether the line has the last word of a list, whose padding isn't zero."""
 

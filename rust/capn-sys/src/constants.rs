@@ -124,7 +124,7 @@ pub const CAPN_LINE_UNREACHED: capn_line_kind = 7;
 
 /// The bits of the `flags` of a [`capn_line`](crate::capn_line).
 pub type capn_line_flag = u32;
-/// Objects or landing pads overlap in the words that aren't the same.
+/// Different objects or landing pads overlap in the words.
 pub const CAPN_LINE_OVERLAP: capn_line_flag = 1;
 /// The line has the last word of a list, whose padding isn't zero.
 pub const CAPN_LINE_PADDING: capn_line_flag = 2;

@@ -62,7 +62,7 @@ pub struct Line {
     pub words: u32,
     /// How often objects and landing pads cover each of the words; 0 for [`LineKind::Unreached`].
     pub times: u32,
-    /// The pointer to whose object or landing pad the words belong: its segment, and its word in that segment. `None`
+    /// The pointer to the object or landing pad that has the words: its segment, and its word in that segment. `None`
     /// for the root pointer, and for [`LineKind::Unreached`].
     pub slot: Option<(u32, u32)>,
     /// How many of the words canonical bytes leave out.
@@ -71,7 +71,7 @@ pub struct Line {
     pub not_zero: u32,
     /// What the words are.
     pub kind: LineKind,
-    /// Whether objects or landing pads overlap in the words that aren't the same.
+    /// Whether different objects or landing pads overlap in the words.
     pub overlap: bool,
     /// Whether the line has the last word of a list, whose padding isn't zero.
     pub padding: bool,

@@ -55,7 +55,7 @@ fn lines_of_messages() {
             "32 0:3 1 1 list of 0:2",
         ]
     );
-    // A writer set a text twice, and left the first one where it was.
+    // A writer set a text twice. The message still has the word of the first text, but no pointer leads to it.
     let twice = hex("00000000000001000500000032000000\
          41646100000000004772616365000000");
     assert_eq!(
@@ -103,7 +103,7 @@ fn lines_of_messages() {
             "48 0:6 1 1 slack of 0:1",
         ]
     );
-    // A list of 17 bytes. A byte after them isn't zero.
+    // A list of 17 bytes. In its last word, a byte after the list isn't zero.
     let padded = words(&[1 | 2 << 32 | 17 << 35, 1, 0, 9 << 56]);
     assert_eq!(
         lines(&padded, Form::Bare),
