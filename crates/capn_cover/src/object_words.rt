@@ -17,18 +17,15 @@ use capn_target::content_words;
 use capn_walk::Shape;
 use capn_words::{Space, Width};
 
-/// Returns the holder of the word `cell`, after the visit of the slot with the number `slot` covers the word in the
-/// given `role`. The holder of a word that is followed already stays.
+/// Changes the holder of the word `cell` as the visit of the slot with the number `slot` does, which covers the word in
+/// the given `role`. The holder of a word that is followed already stays.
 #[inline(always)]
-fn holder_after(cell: Covered, slot: u32, role: Role) -> u32
-    ensures { result ≡ spec.holder_after cell.is_followed cell.holder slot role }
+fn hold(cell: &mut Covered, slot: u32, role: Role)
+    ensures { cell.new
+        ≡ record cell.old { holder = spec.holder_after cell.old.is_followed cell.old.holder slot role } }
 {
-    if cell.is_followed {
-        cell.holder
-    } else if role.is_read() {
-        slot
-    } else {
-        cell.holder
+    if !cell.is_followed && role.is_read() {
+        cell.holder = slot;
     }
 }
 
@@ -74,12 +71,12 @@ fn cover_cell<S: Space>(
     ensures covered { cell.new ≡ spec.once_more (S.message space.now) slot role cell.old }
     ensures known { Knows (S.message space.now) slot role known.new }
 {
-    let holder = holder_after(*cell, slot, role);
+    hold(cell, slot, role);
     if cell.times == 0 {
         *cell = Covered {
             times: 1,
             slot,
-            holder,
+            holder: cell.holder,
             role,
             overlap: false,
             is_followed: cell.is_followed,
@@ -87,8 +84,13 @@ fn cover_cell<S: Space>(
         };
         return;
     }
-    cell.overlap = is_overlap(space, before, known, *cell, slot, role);
-    cell.holder = holder;
+    if known.slot == cell.slot && known.role == cell.role {
+        if known.differs {
+            cell.overlap = true;
+        }
+    } else {
+        cell.overlap = is_overlap(space, before, known, *cell, slot, role);
+    }
     cell.times += 1;
 }
 
