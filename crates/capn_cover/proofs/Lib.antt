@@ -16,3 +16,4 @@ mod WorkedCovers
 mod PlaceOf
 mod SameParts
 mod Knowing
+mod Following

@@ -1,6 +1,6 @@
 //! The words of one object and of its landing pad, each of which one visit covers once.
 
-ghost use Rattle.std.specs.Prelude.{◌≡◌, ◌≤◌, ◌<◌, ◌+◌, ◌*◌, ◌^◌, ◌||◌, length};
+ghost use Rattle.std.specs.Prelude.{◌≡◌, ◌≤◌, ◌<◌, ◌+◌, ◌*◌, ◌^◌, ◌||◌, if◌then◌else◌, length};
 ghost use Rattle.capn_words.specs.Message.{IsMessage, most_words};
 ghost use Rattle.capn_target.specs.Shapes.{extent, RowsFit};
 ghost use Rattle.capn_cover.specs.declared.covered.Role.TheVariants as roles;
@@ -9,7 +9,7 @@ ghost use Rattle.capn_cover.specs.Covers.{run, rows_run, content_run};
 ghost use Rattle.capn_cover.specs.Parts as parts;
 ghost use Rattle.capn_cover.specs.inner.Knows.{Knows};
 ghost use Rattle.capn_cover.specs.inner.Laid as spec;
-ghost use Rattle.capn_cover.specs.inner.Laid.{laid, touched, touched_in, followed_in, HasRoom};
+ghost use Rattle.capn_cover.specs.inner.Laid.{laid, touched, touched_in, followed_in, HasRoom, IsFollowed};
 
 use crate::comparison::{Comparison, differs_from};
 use crate::covered::{Covered, Role};
@@ -53,6 +53,24 @@ fn is_overlap<S: Space>(
     differs_from(space, before, known, cell.slot, cell.role, slot, role)
 }
 
+/// Covers the word `cell`, which something has covered, once more by the visit of the slot with the number `slot`, in
+/// the given `role`. `differs` is set if that visit makes the word an overlap.
+#[inline(always)]
+fn cover_again(cell: &mut Covered, differs: bool, slot: u32, role: Role)
+    requires room { cell.old.times + 1 < 2 ^ 32 }
+    ensures { cell.new ≡ record cell.old {
+      times = cell.old.times + 1;
+      holder = spec.holder_after cell.old.is_followed cell.old.holder slot role;
+      overlap = cell.old.overlap || differs;
+    } }
+{
+    hold(cell, slot, role);
+    if differs {
+        cell.overlap = true;
+    }
+    cell.times += 1;
+}
+
 /// Covers the word `cell` once more, in the given `role`, by the visit of the slot with the number `slot`, whose last
 /// comparison is `known`. Element `s` of `before` is the number of words before segment `s`.
 #[inline(always)]
@@ -71,8 +89,8 @@ fn cover_cell<S: Space>(
     ensures covered { cell.new ≡ spec.once_more (S.message space.now) slot role cell.old }
     ensures known { Knows (S.message space.now) slot role known.new }
 {
-    hold(cell, slot, role);
     if cell.times == 0 {
+        hold(cell, slot, role);
         *cell = Covered {
             times: 1,
             slot,
@@ -84,14 +102,8 @@ fn cover_cell<S: Space>(
         };
         return;
     }
-    if known.slot == cell.slot && known.role == cell.role {
-        if known.differs {
-            cell.overlap = true;
-        }
-    } else {
-        cell.overlap = is_overlap(space, before, known, *cell, slot, role);
-    }
-    cell.times += 1;
+    let overlap = is_overlap(space, before, known, *cell, slot, role);
+    cover_again(cell, overlap, slot, role);
 }
 
 /// Marks the word with the number `slot` as followed.
@@ -174,6 +186,64 @@ pub fn cover_word<S: Space>(
     cover_next(space, before, cells, &mut known, word, slot, role);
 }
 
+/// Covers the word with the number `word` once more if the comparison `known` is of it, and tells whether it is. The
+/// visit is that of the slot with the number `slot`, which is marked as followed.
+#[inline(always)]
+fn touch_known<S: Space>(
+    _space: &S,
+    cells: &mut [Covered],
+    known: Comparison,
+    word: usize,
+    slot: u32,
+    role: Role,
+) -> bool
+    requires known { Knows (S.message _space.now) slot role known }
+    requires within { word < length cells.old }
+    requires room { HasRoom 1 cells.old }
+    ensures { cells.new
+        ≡ (if result then touched_in (S.message _space.now) word slot role cells.old else cells.old) }
+{
+    let cell = cells[word];
+    if cell.times == 0 || known.slot != cell.slot {
+        return false;
+    }
+    if known.role.is_of_object() && cell.role.is_of_object() {
+        cover_again(&mut cells[word], known.differs, slot, role);
+        return true;
+    }
+    false
+}
+
+/// Covers words from the number `first` on, at most `count`, as long as the comparison `known` is of them, and returns
+/// how many it covers. The visit is that of the slot with the number `slot`, which is marked as followed.
+#[inline(always)]
+fn cover_known<S: Space>(
+    space: &S,
+    cells: &mut [Covered],
+    known: Comparison,
+    first: u32,
+    count: u32,
+    slot: u32,
+    role: Role,
+) -> u32
+    requires known { Knows (S.message space.now) slot role known }
+    requires within { first + count ≤ length cells.old }
+    requires followed { IsFollowed slot cells.old }
+    requires few { length cells.old ≤ most_words }
+    requires room { HasRoom count cells.old }
+    ensures count { result ≤ count }
+    ensures cells { cells.new ≡ laid (S.message space.now) (run slot role first result) cells.old }
+    ensures followed { IsFollowed slot cells.new }
+{
+    let start = first as usize;
+    for i in 0..count {
+        if !touch_known(space, cells, known, start + i as usize, slot, role) {
+            return i;
+        }
+    }
+    count
+}
+
 /// Covers `count` words from the number `first` on, each once more, by the visit of the slot with the number `slot`,
 /// whose last comparison is `known`.
 #[inline(always)]
@@ -197,8 +267,17 @@ fn cover_words<S: Space>(
     ensures cells { cells.new ≡ laid (S.message space.now) (run slot role first count) cells.old }
     ensures known { Knows (S.message space.now) slot role known.new }
 {
-    for i in 0..count {
-        cover_next(space, before, cells, known, first + i, slot, role);
+    if count == 0 {
+        return;
+    }
+    follow(cells, slot);
+    let mut done = 0;
+    'words: while done < count {
+        done += cover_known(space, cells, *known, first + done, count - done, slot, role);
+        if done < count {
+            touch(space, before, cells, known, first + done, slot, role);
+            done += 1;
+        }
     }
 }
 

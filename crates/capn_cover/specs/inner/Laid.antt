@@ -28,6 +28,10 @@ followed x = record x { is_followed = true }
 abbrev pub followed_in : (slot : ℕ) → List Covered → List Covered
 followed_in slot cells = set cells slot (followed (slice_index_or cells slot unreached))
 
+-- the slot with the given number is marked as followed
+abbrev pub IsFollowed : (slot : ℕ) → List Covered → Type 0
+IsFollowed slot cells = (slice_index_or cells slot unreached).is_followed ≡ true
+
 module _ (m : List (List ℕ)) where
   -- the word `x`, which nothing has covered, after it is covered
   abbrev pub first_covered : (slot : ℕ) → Role → Covered → Covered
