@@ -50,7 +50,8 @@ module _ (m : List (List ℕ)) where
       → cells ≡ laid m (run slot role first i) start → IsFollowed slot cells
       → new ≡ touched_in m (first + i) slot role cells → new ≡ laid m (run slot role first (i + 1)) start
   one-more slot role first i start cells new e h g =
-      laid-next m _ (run slot role first i) ((record { word = first + i; slot = slot; role = role }) ∷ []) start cells new
+      laid-next m _ (run slot role first i) ((record { word = first + i; slot = slot; role = role }) ∷ []) start cells
+      new
       (run-next slot role first i) e
       (g ∙ ap (λ (xs : List Covered). touched_in m (first + i) slot role xs) (sym (marked-same slot cells h)))
 
