@@ -4,7 +4,7 @@
 //! [`cover`] surveys a message within limits, and then visits each slot once more, in the order of the walk. A visit of
 //! a slot that leads to a struct or a list covers the words of its landing pad and then the words of the content. The
 //! root's slot is covered by the message itself, before all visits. A word belongs to the first that covers it, and is
-//! an overlap if something else covers it too.
+//! an overlap if something else covers it too. [`cover_surveyed`] also returns the survey.
 //!
 //! A word is a slot if a visit reads it as one, and cut if canonical bytes leave it out of the object to which it
 //! belongs.
@@ -24,5 +24,5 @@ mod part;
 mod starts;
 
 pub use covered::{Covered, Role};
-pub use message_cover::cover;
+pub use message_cover::{SurveyedCover, cover, cover_surveyed};
 pub use starts::{number_of, place_of, words_before};

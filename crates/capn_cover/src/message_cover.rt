@@ -4,6 +4,7 @@ ghost use Rattle.std.specs.Prelude.{◌≡◌, ◌⊎◌, ◌<◌, ◌≤◌, �
 ghost use Rattle.capn_words.specs.Message.{IsMessage, IsPlace, total};
 ghost use Rattle.capn_value.specs.Tree.{Tree};
 ghost use Rattle.capn_walk.specs.Accepted.{IsAccepted, IsValueOf, IsWalkRefused, paid, root};
+ghost use Rattle.capn_walk.specs.Surveyed.{IsSurvey};
 ghost use Rattle.capn_target.specs.declared.target.Fault.TheVariants.{Memory};
 ghost use Rattle.capn_cover.specs.Numbers.{CountsBefore};
 ghost use Rattle.capn_cover.specs.Cover.{IsCover, all_times};
@@ -16,9 +17,18 @@ use crate::covered::{Covered, Role};
 use crate::cut_words::cut_words;
 use crate::object_words::cover_word;
 use crate::starts::words_before;
-use capn_walk::{Fault, Limits, Stopped, survey};
+use capn_walk::{Fault, Limits, Stopped, Surveyed, survey};
 use capn_words::{Place, Space, total_words};
-use std::alloc::{AllocError, Allocator};
+use std::alloc::{AllocError, Allocator, Global};
+
+/// The cover of a message, and the survey that accepted the message.
+#[derive(Debug, Drop)]
+pub struct SurveyedCover<A: Allocator = Global> {
+    /// An item for each word of the message.
+    pub words: Vec<Covered, A>,
+    /// The survey of the message.
+    pub survey: Surveyed,
+}
 
 /// Finds for each word of the message `space` how often the visits of its walk cover it, to which visit it belongs,
 /// what it is there and whether something else covers it too, if the message is accepted within `limits`.
@@ -53,11 +63,43 @@ pub fn cover<S: Space, A: Allocator + Copy>(
     // accepted.
     ensures no_memory { IfErr result (λ s. s.fault ≡ Memory → IsAccepted (S.message space.now) limits) }
 {
+    match cover_surveyed(alloc, space, limits) {
+        Ok(cover) => Ok(cover.words),
+        Err(stopped) => Err(stopped),
+    }
+}
+
+/// Finds what [`cover`] finds, and also returns the survey of the message `space` that [`cover`] begins with, so that
+/// a caller needs no second one.
+///
+/// The work, the errors and the memory are those of [`cover`]. (Our own.)
+pub fn cover_surveyed<S: Space, A: Allocator + Copy>(
+    alloc: A,
+    space: &S,
+    limits: Limits,
+) -> Result<SurveyedCover<A>, Stopped>
+    // If `result` is `Ok`, the message is accepted, and there is an item for each word: how often it is covered, by
+    // what first, whether something else covers it too, what first reads it as a slot, and whether it is cut.
+    ensures found { IfOk result (λ c. IsCover (S.message space.now) limits c.words.items) }
+    // If `result` is `Ok`, it also has the number of words that the walk pays, the number of visits, and the first
+    // capability of the value.
+    ensures surveyed { IfOk result (λ c. IsSurvey (S.message space.now) limits c.survey) }
+    // All words together are covered at most once for each word that the walk pays, and the root's slot once more.
+    ensures work { IfOk result (λ c. all_times c.words.items ≤ 1 + paid (S.message space.now) limits) }
+    // An accepted message gives `Ok`, unless an allocation was refused. Any other error is the stop of the walk.
+    ensures only { (v : Tree) → IsValueOf (S.message space.now) limits v → IfErr result (λ s. s.fault ≡ Memory) }
+    ensures refused { IfErr result (λ s.
+        (s.fault ≡ Memory)
+        ⊎ IsWalkRefused (S.message space.now) limits s.fault s.place s.paid s.visits) }
+    // Memory is taken only after the survey has accepted the message. So if the fault is `Memory`, the message is
+    // accepted.
+    ensures no_memory { IfErr result (λ s. s.fault ≡ Memory → IsAccepted (S.message space.now) limits) }
+{
     let _bounds = space.segments();
     let _most = limits.budget();
-    survey(alloc, space, limits)?;
+    let survey = survey(alloc, space, limits)?;
     match cover_accepted(alloc, space, limits.depth()) {
-        Ok(words) => Ok(words),
+        Ok(words) => Ok(SurveyedCover { words, survey }),
         Err(_) => Err(Stopped {
             fault: Fault::Memory,
             place: Place::ROOT,

@@ -2,9 +2,9 @@
 
 use crate::wanted::{cut, follow, is_cover, none, overlap, word};
 use crate::words::bytes_of;
-use capn_cover::{Role, cover};
+use capn_cover::{Role, cover, cover_surveyed};
 use capn_stream::first;
-use capn_walk::{Fault, Limits};
+use capn_walk::{Fault, Limits, survey};
 use std::test::Fail;
 
 #[test]
@@ -237,6 +237,47 @@ fn a_refused_message(rt: HostRuntime) -> Result<(), Fail> {
         return Err(Fail::new("no message"));
     };
     match cover(rt.alloc(), &framed, usual) {
+        Ok(_) => Err(Fail::new("accepted")),
+        Err(stopped) => {
+            assert!(rt; stopped.fault == Fault::Range);
+            Ok(())
+        }
+    }
+}
+
+/// The survey that comes with the cover of a message with the capability 5 is the message's own.
+#[test]
+fn a_cover_with_its_survey(rt: HostRuntime) -> Result<(), Fail> {
+    let words = [0x2_0000_0000, 0x1_0000_0000_0000, 0x5_0000_0003];
+    let bytes = bytes_of(rt.alloc(), &words)?;
+    let usual = Limits::usual();
+    let Ok((framed, _)) = first(rt.alloc(), bytes.as_slice(), usual.message_words()) else {
+        return Err(Fail::new("no message"));
+    };
+    let Ok(found) = cover_surveyed(rt.alloc(), &framed, usual) else {
+        return Err(Fail::new("refused"));
+    };
+    let want = [word(1, 0, Role::Root), word(1, 0, Role::Slot)];
+    assert!(rt; found.words.as_slice() == want.as_slice());
+    assert!(rt; found.survey.capability == Some(5));
+    match survey(rt.alloc(), &framed, usual) {
+        Ok(told) => {
+            assert!(rt; found.survey == told);
+            Ok(())
+        }
+        Err(_) => Err(Fail::new("not surveyed")),
+    }
+}
+
+/// A message that is refused has neither a cover nor a survey.
+#[test]
+fn no_survey_of_a_refused_message(rt: HostRuntime) -> Result<(), Fail> {
+    let bytes = bytes_of(rt.alloc(), &[0x1_0000_0000, 0x1_0000_0000])?;
+    let usual = Limits::usual();
+    let Ok((framed, _)) = first(rt.alloc(), bytes.as_slice(), usual.message_words()) else {
+        return Err(Fail::new("no message"));
+    };
+    match cover_surveyed(rt.alloc(), &framed, usual) {
         Ok(_) => Err(Fail::new("accepted")),
         Err(stopped) => {
             assert!(rt; stopped.fault == Fault::Range);

@@ -1,6 +1,6 @@
 use Rattle.std.proofs.Common.{arith}
 use Rattle.capn_cover.proofs.Whole.{few, few-times, is-cover}
-use Rattle.capn_cover.proofs.message_cover.cover.Goals as goal
+use Rattle.capn_cover.proofs.message_cover.cover_surveyed.Goals as goal
 
 pub cover_accepted-requires-clause-few : goal.cover_accepted-requires-clause-few
 cover_accepted-requires-clause-few g c =
