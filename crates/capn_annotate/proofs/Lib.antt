@@ -2,5 +2,6 @@ mod Added
 mod Escapes
 mod Climbs
 mod Loops
+mod Ready
 mod Served
 mod AnnotatedRuns

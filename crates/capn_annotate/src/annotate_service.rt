@@ -4,7 +4,7 @@ ghost use Rattle.std.specs.Prelude.{◌≡◌, false};
 
 use crate::annotate_order::AnnotateOrder;
 use crate::annotation::add_annotation;
-use capn_cover::cover;
+use capn_cover::cover_surveyed;
 use capn_serve::{Position, ServeFault, Service, fault_of_stop};
 use capn_words::{Space, Watched};
 use std::alloc::Allocator;
@@ -35,8 +35,18 @@ impl Service for AnnotateOrder {
         writer: &mut Watched<W>,
     ) -> Result<(), ServeFault> {
         let _bounds = message.segments();
-        match cover(alloc, message, self.limits) {
-            Ok(words) => add_annotation(alloc, self, at, frame, message, &words, text, writer),
+        match cover_surveyed(alloc, message, self.limits) {
+            Ok(cover) => add_annotation(
+                alloc,
+                self,
+                at,
+                frame,
+                message,
+                &cover.words,
+                cover.survey,
+                text,
+                writer,
+            ),
             Err(stopped) => Err(fault_of_stop(stopped)),
         }
     }

@@ -3,6 +3,7 @@
 ghost use Rattle.std.specs.Prelude.{◌≡◌, ◌≤◌, ◌<◌, ◌+◌, ◌*◌, ◌^◌, false, length, IfOk};
 ghost use Rattle.capn_words.specs.Message.{IsMessage, total};
 ghost use Rattle.capn_words.specs.Watched.{inner_of, has_failed};
+ghost use Rattle.capn_walk.specs.Surveyed.{IsSurvey};
 ghost use Rattle.capn_cover.specs.Cover.{IsCover};
 ghost use Rattle.capn_cover.specs.Numbers.{CountsBefore};
 ghost use Rattle.capn_serve.specs.Outgoing.{outgoing};
@@ -19,6 +20,7 @@ use crate::table_line::table_line;
 use capn_cover::{Covered, words_before};
 use capn_lines::count_words;
 use capn_serve::{Position, ServeFault, add_bytes, table_words};
+use capn_walk::Surveyed;
 use capn_words::{Space, Watched, total_words};
 use std::alloc::Allocator;
 use std::io::Write;
@@ -212,8 +214,8 @@ fn add_chosen<S: Space, W: Write, A: Allocator + Copy>(
     )
 }
 
-/// Adds what is written for `message` to the output. The message is accepted within the limits of `order`, and `words`
-/// has what the visits make of each of its words.
+/// Adds what is written for `message` to the output. The message is accepted within the limits of `order`, with the
+/// given `survey`, and `words` has what the visits make of each of its words.
 pub fn add_annotation<S: Space, W: Write, A: Allocator + Copy>(
     alloc: A,
     order: &AnnotateOrder,
@@ -221,10 +223,12 @@ pub fn add_annotation<S: Space, W: Write, A: Allocator + Copy>(
     frame: &[u8],
     message: &S,
     words: &[Covered],
+    survey: Surveyed,
     text: &mut Vec<u8, A>,
     writer: &mut Watched<W>,
 ) -> Result<(), ServeFault>
     requires message { IsMessage (S.message message.now) }
+    requires survey { IsSurvey (S.message message.now) order.now.limits survey }
     requires cover { IsCover (S.message message.now) order.now.limits words.now }
     requires fine { has_failed writer.old ≡ false }
     ensures { AddsAnnotation (spec.IsAnnotation order.now at frame.now (S.message message.now))
@@ -233,7 +237,7 @@ pub fn add_annotation<S: Space, W: Write, A: Allocator + Copy>(
 {
     let before = words_before(alloc, message)?;
     let counts = count_words(message, &before, words);
-    let canonical = canonical_words(message, order.limits);
+    let canonical = canonical_words(message, order.limits, survey);
     let summary = Summary {
         at,
         counts,
