@@ -91,6 +91,7 @@ fn report_of_index(surveyed: Surveyed) -> CapnReport
 
 /// Writes the index of the message `space` to `out`, and reports the result. The message follows a segment table of
 /// `table` bytes. Memory is allocated only for more than 64 segments.
+#[inline(always)]
 fn index_message<S: Space>(
     alloc: Global,
     space: &S,
