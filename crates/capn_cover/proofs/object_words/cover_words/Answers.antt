@@ -1,12 +1,26 @@
 use Rattle.std.proofs.Common.{◌≡◌, ℕ, ◌+◌, ◌-◌, ◌<◌, ◌∙◌, List, length, ap, arith}
 use Rattle.capn_cover.specs.declared.covered.Covered.{Covered}
 use Rattle.capn_cover.specs.Covers.{run}
-use Rattle.capn_cover.specs.inner.Laid.{laid, HasRoom}
+use Rattle.capn_cover.specs.inner.Laid.{laid, touched_in, HasRoom}
 use Rattle.capn_cover.proofs.LaidItems.{room_followed}
 use Rattle.capn_cover.proofs.Runs.{run-add}
 use Rattle.capn_cover.proofs.Rooms.{run-room, after-run, laid-next}
 use Rattle.capn_cover.proofs.Following.{one-more, still-followed, marked-first}
 use Rattle.capn_cover.proofs.object_words.cover_words.Goals as goal
+
+pub cover_one-requires-clause-room : goal.cover_one-requires-clause-room
+cover_one-requires-clause-room g c =
+    let e = c.if-count-eq1.true in
+    let r = rw e at c.requires.room in
+    rw c.follow.ensures (room_followed c.args.slot 1 c.args.cells.now r)
+
+pub returns-then-count-eq1-clause-cells : goal.returns-then-count-eq1-clause-cells
+returns-then-count-eq1-clause-cells g c =
+    let m = g.S.Space.message c.args.space.now in
+    let e = c.if-count-eq1.true in
+    let f = c.follow.ensures in
+    rw e (c.cover_one.ensures.cells
+    ∙ ap (λ (xs : List Covered). touched_in m c.args.first c.args.slot c.args.role xs) f)
 
 pub cover_known-done-requires-clause-room : goal.cover_known-done-requires-clause-room
 cover_known-done-requires-clause-room g c =
