@@ -17,4 +17,6 @@ mod pointers;
 #[cfg(test)]
 mod receiving;
 #[cfg(test)]
+mod tables;
+#[cfg(test)]
 mod watched;
