@@ -33,6 +33,9 @@ MOST_LINES = 40
 # A job tests a crate. It has the name of the crate, a word that says what is tested, and a function that returns the
 # errors and the output.
 Job = collections.namedtuple("Job", "crate what run")
+# The code of a test file: its crate, its imports from the product, and the words of the rest. `calls` are the words
+# before a parenthesis, `dotted` those of them after a dot, and `paths` the pairs around `::`.
+Code = collections.namedtuple("Code", "crate imports words calls dotted paths")
 # An exported function, and the crate that exports it. For the calls of c/capn.h, the name of the crate is `c`.
 Function = collections.namedtuple("Function", "crate name")
 
@@ -169,58 +172,130 @@ def cases_job(crate, cases):
     return Job(crate, f"{len(cases):,} cases", run)
 
 
-def imported(text, crates):
-    """Yields the names that a file imports from the given crates, and those that it writes as CRATE::NAME."""
-    for crate, one, several in re.findall(r"^(?:pub )?use (\w+)::(?:([\w:]+)|\{([^}]*)\});", text, re.M):
-        if crate in crates:
-            yield from re.findall(r"\w+", several or one)
-    for crate, word in re.findall(r"\b(\w+)::(\w+)", text):
-        if crate in crates:
-            yield word
+# What a file of Rattle or C has beside its code: comments, texts and letters. A quote in a letter begins no text.
+NOT_CODE = re.compile(r'//[^\n]*|/\*.*?\*/|b?\'(?:\\.|[^\\\'\n])\'|"(?:\\.|[^"\\])*"', re.S)
+# A line that imports: the path, and the names in braces or the `*`.
+USED = re.compile(r"^\s*(?:pub )?use ([\w:]+)(?:::(?:\{([^}]*)\}|(\*)))?;", re.M)
 
 
 @functools.cache
 def product():
-    """Returns the names of the crates of the product. They begin with `capn`."""
-    return frozenset(it for it in proving.crates() if it.startswith("capn"))
+    """Returns the names of the crates of the product, which begin with `capn`, in the order of crates.txt."""
+    return tuple(it for it in proving.crates() if it.startswith("capn"))
+
+
+def items_of(crate, module):
+    """Yields what a module exports: for each name, the path of the module that it comes from, and the name."""
+    text = text_of("crates", crate, "src", f"{module}.rt")
+    yield from ((module, name) for name in re.findall(r"^pub (?:fn|struct|enum|trait) (\w+)", text, re.M))
+    for path, names in re.findall(r"^pub use ([\w:]+)::(\{[^}]*\}|\w+);", text, re.M):
+        yield from ((path.removeprefix("crate::"), name) for name in re.findall(r"\w+", names))
+
+
+@functools.cache
+def items(crate):
+    """Returns what a crate of the product exports, as `items_of` yields it. Leaves out the modules of laws, whose
+    functions nothing calls: their contracts are all that they say."""
+    if not os.path.exists(os.path.join(TOP, "crates", crate, "src", "lib.rt")):
+        return ()
+    modules = re.findall(r"^pub mod (\w+);", text_of("crates", crate, "src", "lib.rt"), re.M)
+    if crate == proving.LIBRARY:
+        # Apart from its calls, which c/capn.h declares, the library for C exports only laws of these calls.
+        return ()
+    modules = ["lib", *(it for it in modules if it != "laws")]
+    return tuple(dict.fromkeys(it for module in modules for it in items_of(crate, module)))
+
+
+def methods(crate, types):
+    """Yields the public functions of the given types of a crate, as `TYPE::NAME`. The functions of a trait are not
+    among them."""
+    for path in sorted(glob.glob(os.path.join(TOP, "crates", crate, "src", "**", "*.rt"), recursive=True)):
+        for head, body in re.findall(r"^impl\b([^{;]*)\{\n(.*?)^\}", text_of(path), re.M | re.S):
+            name = re.match(r"(?:<(?:[^<>]|<[^<>]*>)*>)? (\w+)", head)
+            if " for " not in head and name and name[1] in types:
+                yield from (f"{name[1]}::{it}" for it in re.findall(r"^    pub (?:unsafe )?fn (\w+)", body, re.M))
 
 
 def exported():
-    """Yields each function that a crate of the product (capn*) exports, and each call of c/capn.h. Leaves out functions
-    that the crate only exports again from another crate of the product."""
-    for crate in proving.crates():
-        path = os.path.join("crates", crate, "src", "lib.rt")
-        if crate not in product() or not os.path.exists(os.path.join(TOP, path)):
-            continue
-        for module, names in re.findall(r"^pub use ([\w:]+)::(\{[^}]*\}|\w+);", text_of(path), re.M):
-            if module.split("::")[0] not in product():
-                yield from (Function(crate, name) for name in re.findall(r"\b[a-z]\w*", names))
+    """Yields each function that a crate of the product (capn*) exports, each public function of a type that it exports,
+    and each call of c/capn.h. Leaves out what the crate only exports again from another crate of the product, and the
+    laws."""
+    for crate in product():
+        own = [name for path, name in items(crate) if path.split("::")[0] not in product()]
+        yield from (Function(crate, name) for name in dict.fromkeys(own) if name[0].islower())
+        yield from (Function(crate, name) for name in methods(crate, {it for it in own if it[0].isupper()}))
     for name in sorted(set(re.findall(r"^[\w *]*?\b(capn_[a-z_]+)\(", text_of("c", "capn.h"), re.M))):
         yield Function("c", name)
 
 
+def imports_of(text, crate):
+    """Yields what a file imports from the crates of the product: the crate, the item, and the item's name in the file.
+    `crate` is the crate of the file."""
+    for path, names, each in USED.findall(text):
+        first = path.split("::")[0]
+        origin = crate if first in ("crate", "super") else first
+        if origin in product() and each:
+            yield from ((origin, name, name) for _, name in items(origin))
+        elif origin in product():
+            for name, new in re.findall(r"(\w+)(?: as (\w+))?", names or path.split("::")[-1]):
+                yield origin, name, new or name
+
+
 @functools.cache
-def words_of_tests():
-    """Returns a dictionary: a key is the path of a test file, and its value has the names that the file uses. For a
-    crate's test file, these are the names that it imports from the crates of the product (capn*). For a file of
-    tests/c, they are all words of the file."""
+def test_files():
+    """Returns a dictionary: a key is the path of a test file, and its value is the `Code` of the file. A file of
+    tests/c has no crate and no imports."""
     found = {}
     for crate in proving.crates():
         if crate.startswith(("test_", "conformance_")) or crate in product() and tests_of(crate):
             for path in glob.glob(os.path.join(TOP, "crates", crate, "src", "**", "*.rt"), recursive=True):
                 text = text_of(path)
                 if crate not in product() or "#[test]" in text:
-                    found[os.path.relpath(path, TOP)] = frozenset(imported(text, product() | {"crate"}))
-    for path in glob.glob(os.path.join(TOP, "tests", "c", "*.*")):
-        found[os.path.relpath(path, TOP)] = frozenset(re.findall(r"\w+", text_of(path)))
+                    # In a crate of the product, the tests stand at the end of the file that they test.
+                    code = NOT_CODE.sub(" ", text)
+                    code = code.partition("#[cfg(test)]")[2] if crate in product() else code
+                    found[os.path.relpath(path, TOP)] = code_of(crate, set(imports_of(code, crate)), code)
+    for path in glob.glob(os.path.join(TOP, "tests", "c", "*.c*")):
+        found[os.path.relpath(path, TOP)] = code_of("", set(), NOT_CODE.sub(" ", text_of(path)))
     return found
+
+
+def code_of(crate, imports, code):
+    code = USED.sub(" ", code)
+    paths = re.findall(r"\b(?=(\w+)::(?:<[^>]*>::)?(\w+)\b)", code)
+    words, calls = re.findall(r"(?<!\.)\b\w+", code), re.findall(r"\b(\w+)\(", code)
+    dotted = re.findall(r"\.(\w+)\(", code)
+    return Code(crate, imports, *(frozenset(it) for it in (words, calls, dotted, paths)))
+
+
+@functools.cache
+def providers(crate, name):
+    """Returns the crates of the product that export an item of the given crate: this crate, and those that export it
+    again."""
+    found = {crate}
+    for one in product():
+        if one not in found and any(item == name and path.split("::")[0] in found for path, item in items(one)):
+            found.add(one)
+    return found
+
+
+def is_named(function, file):
+    """Tests whether a test file uses an exported function. The file has to import the function, or the type of a
+    method, from a crate that exports it, and has to write the name once more. Or it writes the name after a module."""
+    if function.crate == "c":
+        return not file.crate and function.name in file.calls
+    item, _, method = function.name.partition("::")
+    origins = providers(function.crate, item)
+    names = {new for origin, name, new in file.imports if name == item and origin in origins}
+    if method:
+        return any((name, method) in file.paths or method in file.dotted for name in names)
+    modules = {new for origin, _, new in file.imports if origin == function.crate} | origins
+    return not names.isdisjoint(file.words) or any((it, item) in file.paths for it in modules)
 
 
 def naming(function):
     """Returns the paths of the test files that name an exported function."""
-    folder = "tests/c/" if function.crate == "c" else "crates/"
-    found = {path for path, words in words_of_tests().items() if function.name in words}
-    return sorted(path for path in found if path.startswith(folder))
+    return sorted(path for path, file in test_files().items() if is_named(function, file))
 
 
 def jobs_naming(files):
