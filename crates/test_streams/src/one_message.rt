@@ -88,7 +88,7 @@ fn one_message_that_is_not_read(rt: HostRuntime) {
     assert!(rt; ending == Err(ToolFault::Memory) && text.is_empty());
 }
 
-/// How messages are shown: in lines, from the root, within a budget.
+/// The lines of messages, from the root, within a budget.
 fn texts_of(form: Form, budget: u32, style: Style, path: &[u64]) -> PartTexts<'_> {
     PartTexts {
         path,

@@ -105,7 +105,7 @@ const REFUSED: [(&[u8], MakeFault); 34] = [
     (b"bytes 3 \"a\\0c\"\nend\n", MakeFault::NotText(1)),
     (b"bytes 2 \"a\t\"\nend\n", MakeFault::NotText(1)),
     (b"bytes 2 \"a\x7f\"\nend\n", MakeFault::NotText(1)),
-    // What is written of no text: `\0` is missing, an escape is missing or needless, or the bytes are no clear UTF-8.
+    // No text is written so: `\0` is missing, an escape is missing or needless, or the bytes are no clear UTF-8.
     (b"bytes \"\xc3\xa9\"\nend\n", MakeFault::NotText(1)),
     (b"bytes \"a\\n\"\nend\n", MakeFault::NotText(1)),
     (b"bytes \"\\u{41}\\0\"\nend\n", MakeFault::NotText(1)),

@@ -117,7 +117,7 @@ impl CountedWriter for IndexTask {
     }
 }
 
-/// How often a call read a message, and how often it may. The first of the reads begins the count.
+/// The number of times that a call read a message, and the greatest number allowed. The first read begins the count.
 #[derive(Clone, Copy, Debug)]
 struct Count {
     reads: u64,
