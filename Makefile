@@ -132,7 +132,8 @@ interop: $(if $(CAPN),,beside)
 	else echo "archives, marks, texts, annotations, memory: skipped, since there is no python3"; fi
 	./contrib/annotate/run
 	./contrib/dask/run
-	@if command -v python3 > /dev/null; then (cd crates/bench && rt run > /dev/null) && CAPN="$(CAPN)" ./bench/seconds short busy; \
+	@if command -v python3 > /dev/null; then \
+	  (cd crates/bench && rt run > /dev/null) && CAPN="$(CAPN)" ./bench/seconds short busy; \
 	else echo "seconds: skipped, since there is no python3"; fi
 	@if command -v python3 > /dev/null; then ./tests/python/run && ./tests/python/sanitized && ./tests/reference/hostile; \
 	else echo "python, hostile: skipped, since there is no python3"; fi
