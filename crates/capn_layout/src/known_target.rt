@@ -51,75 +51,14 @@ pub fn target_at<S: Space, L: Ledger>(
             width,
             count,
         } => match width {
-            Width::Rows => followed(space, at, reads),
-            _ => Target::Content {
-                segment: at.segment,
-                start: start_of(at.word, offset),
-                shape: Shape::Many { width, count },
-                pads: 0,
-            },
-        },
-        _ => followed(space, at, reads),
-    }
-}
-
-/// Returns the target of the pointer at `at`, found by [`resolved`]. The result has a variable of its own, so that the
-/// result takes space on the stack only in this function.
-#[inline(always)]
-fn followed<S: Space, L: Ledger>(
-    space: &CountedSpace<'_, S, L>,
-    at: Place,
-    reads: &mut Reads<L>,
-) -> Target
-    requires message { IsMessage space.now }
-    requires place { IsPlace space.now at }
-    requires found { (t : Targets) × (spec.target space.now at ≡ Ok t) }
-    ensures found { spec.target space.now at ≡ Ok result }
-    ensures reads { reads.new ≤ reads.old + 4 }
-{
-    let target = resolved(space.again(), at, reads);
-    target
-}
-
-/// Returns the target of the pointer at `at`, whatever its kind. The function is not inlined. The pointer is known to
-/// have a target.
-#[inline(never)]
-fn resolved<S: Space, L: Ledger>(
-    space: CountedSpace<'_, S, L>,
-    at: Place,
-    reads: &mut Reads<L>,
-) -> Target
-    requires message { IsMessage space }
-    requires place { IsPlace space at }
-    requires found { (t : Targets) × (spec.target space at ≡ Ok t) }
-    ensures found { spec.target space.entry at ≡ Ok result }
-    ensures reads { reads.new ≤ reads.old + 4 }
-{
-    match split(space.word(at, reads)) {
-        Pointer::Nil => Target::Nil,
-        Pointer::Node {
-            offset,
-            words,
-            slots,
-        } => Target::Content {
-            segment: at.segment,
-            start: start_of(at.word, offset),
-            shape: Shape::Node { words, slots },
-            pads: 0,
-        },
-        Pointer::Many {
-            offset,
-            width,
-            count,
-        } => match width {
-            Width::Rows => {
-                let pointer = Pointer::Many {
-                    offset,
-                    width,
-                    count,
-                };
-                content_of(&space, at.segment, at.word, 0, pointer, reads)
-            }
+            Width::Rows => rows_of(
+                space,
+                at.segment,
+                start_of(at.word, offset),
+                0,
+                count,
+                reads,
+            ),
             _ => Target::Content {
                 segment: at.segment,
                 start: start_of(at.word, offset),
@@ -131,12 +70,12 @@ fn resolved<S: Space, L: Ledger>(
             double: false,
             word,
             segment,
-        } => { behind_one(&space, segment, word, reads) }
+        } => behind_one(space, segment, word, reads),
         Pointer::Far {
             double: true,
             word,
             segment,
-        } => { behind_two(space.again(), segment, word, reads) }
+        } => behind_two(space, segment, word, reads),
         Pointer::Cap(index) => Target::Cap(index),
         Pointer::Reserved(_) => unreachable!(),
     }
@@ -242,10 +181,31 @@ fn behind_one<S: Space, L: Ledger>(
     content_of(space, segment, word, 1, pointer, reads)
 }
 
-/// Returns the target of a far pointer to the landing pad of two words at `word` of `segment`. The pointer is known to
-/// have a target.
+/// Returns the target of a far pointer to the landing pad of two words at `word` of `segment`, found by [`resolved`].
+/// The result has a variable of its own, so that the result takes space on the stack only in this function.
 #[inline(always)]
 fn behind_two<S: Space, L: Ledger>(
+    space: &CountedSpace<'_, S, L>,
+    segment: u32,
+    word: u32,
+    reads: &mut Reads<L>,
+) -> Target
+    requires found { (t : Targets) × (spec.landing space.now segment word 2
+        (spec.two_pads space.now (spec.pointer_in space.now segment word)
+        (spec.pointer_in space.now segment (word + 1))) ≡ Ok t) }
+    ensures found { spec.landing space.now segment word 2
+        (spec.two_pads space.now (spec.pointer_in space.now segment word)
+        (spec.pointer_in space.now segment (word + 1))) ≡ Ok result }
+    ensures reads { reads.new ≤ reads.old + 3 }
+{
+    let target = resolved(space.again(), segment, word, reads);
+    target
+}
+
+/// Returns the target of a far pointer to the landing pad of two words at `word` of `segment`. The pointer is known to
+/// have a target. The function is not inlined, because few pointers have such a pad.
+#[inline(never)]
+fn resolved<S: Space, L: Ledger>(
     space: CountedSpace<'_, S, L>,
     segment: u32,
     word: u32,

@@ -188,11 +188,37 @@ fn lay_each<S: Source>(
     end
 }
 
+/// Lays out the first `count` slots of `source` by [`lay_each`]. If there are no slots, no function is called.
+#[cycle(objects)]
+#[inline(always)]
+fn lay_slots<S: Source>(
+    source: S,
+    count: u32,
+    first: usize,
+    depth: u32,
+    out: &mut [u8],
+    len: usize,
+    reads: &mut S::Reads,
+) -> usize
+    requires ready { AreReady S.has source 0 count depth (length (words_in len out.old)) (length out.old / 8) }
+    requires inside { first + count ≤ len }
+    requires short { length out.old ≤ 2 ^ 32 }
+    ensures laid { AreLaid S.has source count first (words_in len out.old) (words_in result out.new) }
+    ensures kept { IsKept result out.old out.new }
+    ensures reads { (ts : Trees) → count ≤ count_of ts → ((k : ℕ) → k < count → S.has source k (tree_at ts k))
+        → S.spent reads.new + 20 * weights (past count ts) ≤ S.spent reads.old + 12 * count + 20 * weights ts }
+{
+    if count == 0 {
+        return len;
+    }
+    lay_some_slots(source, count, first, depth, out, len, reads)
+}
+
 /// Lays out the first `count` slots of `source` by [`lay_each`]. The function is not inlined, so it has a stack frame
 /// of its own.
 #[cycle(objects)]
 #[inline(never)]
-fn lay_slots<S: Source>(
+fn lay_some_slots<S: Source>(
     source: S,
     count: u32,
     first: usize,

@@ -6,10 +6,10 @@ use capn_value::Memory;
 use std::alloc::Allocator;
 
 /// The number of zeros that are copied at once.
-const BLOCK: usize = 512;
+const BLOCK: usize = 1024;
 
 /// A block of zeros, from which zeros are copied.
-static ZEROS: [u8; 512] = [0; 512];
+static ZEROS: [u8; 1024] = [0; 1024];
 
 /// Returns a vector of `size` zeros. The memory is allocated on `alloc` at once, and `Memory` is returned only if that
 /// allocation was refused.

@@ -107,10 +107,19 @@ module _ (m : List (List ℕ)) where
   rows-near s w pads o n t e = rows-from (content_start w o) s pads n t e
 
   module _ (at : Place) (t : Target) (e : target m at ≡ Ok t) where
-    pub near-any : (o : ℤ) (width : Width) (n : ℕ) → pointer_in m at.segment at.word ≡ Many o width n
+    near-any : (o : ℤ) (width : Width) (n : ℕ) → pointer_in m at.segment at.word ≡ Many o width n
         → target m at ≡ target_from m at.segment at.word 0 (Many o width n)
     unfolding target
     near-any o width n q = ap (target_of_pointer m at.segment at.word) q
+
+    pub near-rows : (o : ℤ) (n start : ℕ) → pointer_in m at.segment at.word ≡ Many o Rows n
+        → content_start at.word o ≡ Ok start → target m at ≡ list m at.segment start 0 Rows n
+    near-rows o n start q moved =
+        near-any o Rows n q ∙ ap (λ (r : Result ℕ Fault). list_from m at.segment r 0 Rows n) moved
+
+    pub rows-start : (o : ℤ) (n : ℕ) → pointer_in m at.segment at.word ≡ Many o Rows n
+        → (start : ℕ) × (content_start at.word o ≡ Ok start) × (start < length (segment_at m at.segment))
+    rows-start o n q = rows-near at.segment at.word 0 o n t (sym (near-any o Rows n q) ∙ e)
 
     pub behind-one : (w s : ℕ) → pointer_in m at.segment at.word ≡ Far false w s
         → target m at ≡ landing m s w 1 (target_from m s w 1 (pointer_in m s w))

@@ -1,23 +1,24 @@
-use Rattle.std.proofs.Common.{ℕ, ◌+◌, ◌-◌, ◌*◌, ◌/◌, ◌≤◌, length, set, ap, sym, subst, ◌∙◌, arith}
+use Rattle.std.proofs.Common.{◌≡◌, ℕ, ◌+◌, ◌-◌, ◌*◌, ◌/◌, ◌≤◌, length, set, ap, sym, subst, ◌∙◌, arith}
 use Rattle.capn_words.specs.Message.{words_in}
 use Rattle.capn_words.proofs.shared.Words.{length-words_in}
 use Rattle.capn_value.specs.Tree.{Tree}
 use Rattle.capn_layout.specs.declared.source.Item.{Item}
 use Rattle.capn_layout.specs.Layout.{point, list_to}
-use Rattle.capn_layout.specs.LayoutSteps.{laid}
+use Rattle.capn_layout.specs.LayoutSteps.{laid, laid_slots, past}
 use Rattle.capn_layout.specs.Ready.{AreReady, RowsReady}
 use Rattle.capn_layout.specs.inner.Source.{IsItem}
 use Rattle.capn_layout.proofs.writer.Blocks.{opened-room, opened-first, one-ready, one-laid, one-grown, all-ready}
 use Rattle.capn_layout.proofs.writer.Blocks.{all-inside, all-laid, all-grown, struct-one, links-one}
 use Rattle.capn_layout.proofs.shared.Counted.{size-weight}
 use Rattle.capn_layout.proofs.shared.LayLengths.{length-lay}
+use Rattle.capn_layout.proofs.writer.Laid.{slots-none}
 use Rattle.capn_layout.proofs.writer.Drafted.{kept-then, appends-length}
 use Rattle.capn_layout.proofs.writer.Stepwise.{next-ready, then-ready, then-rest, slots-end, grown}
 use Rattle.capn_layout.proofs.writer.Stepwise.{row-ready, row-then-inside, row-then-ready, row-then-rest, rows-end}
 use Rattle.capn_layout.proofs.writer.Stepwise.{rows-empty, grown-row}
 use Rattle.capn_layout.proofs.writer.Stepwise.{laid-plain}
 use Rattle.capn_layout.proofs.writer.Stepwise.{laid-nil, laid-cap, one-more}
-use Rattle.capn_layout.specs.Weight.{weight}
+use Rattle.capn_layout.specs.Weight.{weight, weights}
 use Rattle.capn_layout.proofs.writer.Weighed.{struct-weighs, links-weigh, rows-weigh, one-weighed}
 use Rattle.capn_layout.proofs.writer.Weighed.{slot-weighed, slots-weighed, row-weighed}
 use Rattle.capn_layout.proofs.object_layout.+objects.Goals as goal
@@ -421,6 +422,11 @@ lay_each-returns-clause-laid g t c ts m are =
     c.loop-slot-test.false)
     ∙ c.loop-slot.invariant.rest ts m are
 
+pub lay_slots-returns-then-count-eq0-clause-laid : goal.lay_slots-returns-then-count-eq0-clause-laid
+lay_slots-returns-then-count-eq0-clause-laid g t c ts m are =
+    let p = words_in c.args.len c.args.out.now in
+    sym (ap (λ (k : ℕ). laid_slots k ts c.args.first p) c.if-count-eq0.true ∙ slots-none ts c.args.first p)
+
 -- ---- rows
 
 pub lay_rows-returns-then-slots-eq0-clause-laid : goal.lay_rows-returns-then-slots-eq0-clause-laid
@@ -574,6 +580,11 @@ lay_each-returns-clause-reads g t c ts m are =
     slots-weighed c.args.count c.loop-slot.slot (g.S.Source.spent c.args.reads.now)
     (g.S.Source.spent c.loop-slot.reads) ts c.loop-slot.auto.slot-end c.loop-slot-test.false
     (c.loop-slot.invariant.reads ts m are)
+
+pub lay_slots-returns-then-count-eq0-clause-reads : goal.lay_slots-returns-then-count-eq0-clause-reads
+lay_slots-returns-then-count-eq0-clause-reads g t c ts m are =
+    let e : weights (past c.args.count ts) ≡ weights ts = ap (λ (k : ℕ). weights (past k ts)) c.if-count-eq0.true in
+    omega arith
 
 pub lay_rows-returns-clause-reads : goal.lay_rows-returns-clause-reads
 lay_rows-returns-clause-reads g t c bs is e w s =

@@ -18,8 +18,11 @@ decreases-lay_list g l = 5 * l.depth
 abbrev pub decreases-lay_each : goal.decreases-lay_each
 decreases-lay_each g l = 5 * l.depth + 2
 
+abbrev pub decreases-lay_some_slots : goal.decreases-lay_some_slots
+decreases-lay_some_slots g l = 5 * l.depth + 3
+
 abbrev pub decreases-lay_slots : goal.decreases-lay_slots
-decreases-lay_slots g l = 5 * l.depth + 3
+decreases-lay_slots g l = 5 * l.depth + 4
 
 abbrev pub decreases-lay_rows : goal.decreases-lay_rows
 decreases-lay_rows g l = 5 * l.depth + 4
