@@ -1,4 +1,4 @@
--- What coverings that are laid into items make of one item: its times, the first covering of its word, whether a later
+-- One item after coverings are laid into all of them: its times, the first covering of its word, whether a later
 -- one is by another part, and what they say of it as a slot.
 use Rattle.std.proofs.Common.{◌≡◌, ℕ, suc, ◌+◌, ◌<◌, ◌==◌, Bool, true, false, ◌&&◌, ◌||◌, if◌then◌else◌, List, [], ◌∷◌}
 use Rattle.std.proofs.Common.{length, get_or, set, replicate, refl, ap, ap₂, sym, ◌∙◌, arith}

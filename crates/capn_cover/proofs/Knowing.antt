@@ -1,4 +1,4 @@
--- What the last comparison of a visit says, and that it says it of each word of an object, whatever its role there.
+-- The last comparison of a visit says of each word of an object, whatever its role there, what it says of one.
 use Rattle.std.proofs.Common.{◌≡◌, ℕ, List, true, false, not, Option, Some, None, refl, ap, sym, ◌∙◌}
 use Rattle.capn_words.specs.declared.space.Place.{Place}
 use Rattle.capn_cover.specs.declared.comparison.Comparison.{Comparison}

@@ -1,4 +1,4 @@
--- How often all words together are covered: at most once for each covering.
+-- All words together are covered at most once for each covering.
 use Rattle.std.proofs.Common.{◌≡◌, inl, inr, ℕ, ◌+◌, ◌≤◌, List, [], ◌∷◌, length}
 use Rattle.std.proofs.Common.{get_or, replicate, ap, arith}
 use Rattle.std.proofs.lemmas.Bool.{cases_lt}

@@ -1,4 +1,4 @@
--- What covers a word: the message itself, a landing pad or an object. (Our own.)
+-- The parts of a message that cover its words: the message itself, landing pads and objects. (Our own.)
 use Rattle.std.specs.Prelude.{ℕ, ◌==◌, Bool, true, false, not, ◌&&◌, List}
 use Rattle.std.specs.Prelude.{Result, Ok, Option, Some, None, if◌then◌else◌}
 use Rattle.capn_words.specs.Pointers.{width_code}

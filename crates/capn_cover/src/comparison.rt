@@ -11,7 +11,7 @@ use crate::covered::Role;
 use crate::part::differs;
 use capn_words::Space;
 
-/// Whether a visit covers words by another part than an earlier visit.
+/// The comparison of a visit with an earlier visit, which tells whether the two cover words by two parts that differ.
 #[derive(Clone, Copy)]
 pub struct Comparison {
     /// The number of the slot of the earlier visit.

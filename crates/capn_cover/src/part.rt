@@ -1,4 +1,5 @@
-//! What covers a word: the message itself, a landing pad or an object, and whether two of these are the same.
+//! The parts of a message that cover its words, and their comparison. A part is the message itself, a landing pad or an
+//! object.
 
 ghost use Rattle.std.specs.Prelude.{◌≡◌};
 ghost use Rattle.capn_words.specs.Message.{IsMessage, IsPlace};
@@ -12,7 +13,7 @@ use crate::starts::place_of;
 use capn_walk::{Shape, Target, resolve};
 use capn_words::{Place, Pointer, Space, Width, split};
 
-/// What covers a word.
+/// A part that covers words.
 #[derive(Clone, Copy, Debug, PartialEq, Eq)]
 pub enum Part {
     /// The message itself, which covers the root's slot.
