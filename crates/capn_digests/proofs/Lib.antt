@@ -1,4 +1,5 @@
 pub mod Marks
+pub mod Home
 pub mod Kept
 pub mod Found
 pub mod Sets

@@ -6,7 +6,7 @@ ghost use Rattle.capn_digests.specs.Digests.{MayGrow, HasGrown, no_digests};
 
 use crate::doubling::make_room;
 use crate::look::is_among;
-use crate::slot::{Head, SLOTS, Slot, put, tag_of};
+use crate::slot::{Head, SLOTS, Slot, home_of, may_be_in, put, tag_of};
 use std::alloc::{AllocError, Allocator};
 use std::collections::BTreeSet;
 use std::marker::Model;
@@ -93,7 +93,7 @@ impl<A: Allocator + Copy> DigestSet<A> {
     {
         make_room(&mut self.list, &mut self.heads, &mut self.table)?;
         let tag = tag_of(&digest);
-        let home = tag as usize % self.heads.len();
+        let home = home_of(tag, self.heads.len());
         let head = self.heads[home];
         let at = self.list.len();
         if (head.count as usize) < SLOTS && at < u32::MAX as usize {
@@ -129,8 +129,8 @@ impl<A: Allocator> DigestSet<A> {
             return false;
         }
         let tag = tag_of(digest);
-        let at = tag as usize % self.heads.len();
-        if !self.heads[at].may_have(tag) {
+        let at = home_of(tag, self.heads.len());
+        if !may_be_in(&self.heads[at], &self.table[at], tag) {
             return false;
         }
         is_among(&self.table[at], &self.list, tag, digest) || self.rest.contains(digest)

@@ -6,7 +6,7 @@ ghost use Rattle.capn_digests.specs.declared.slot.Slot.{Slot as SlotValue};
 ghost use Rattle.capn_digests.specs.Buckets.{IsHeld, IsFound, no_head};
 ghost use Rattle.capn_digests.specs.Digests.{HasToGrow, count_of};
 
-use crate::slot::{Head, NO_HEAD, NO_SLOT, SLOTS, Slot};
+use crate::slot::{Head, NO_HEAD, NO_SLOT, SLOTS, Slot, home_of};
 use std::alloc::{AllocError, Allocator};
 
 /// Returns `head` and `bucket` with only the slots whose tags belong to bucket `at` of `buckets` buckets.
@@ -23,7 +23,7 @@ fn kept(head: Head, bucket: &[Slot; SLOTS], at: usize, buckets: usize) -> (Head,
     };
     for j in 0..SLOTS {
         let slot = bucket[j];
-        if j < head.count as usize && slot.tag as usize % buckets == at {
+        if j < head.count as usize && home_of(slot.tag, buckets) == at {
             kept[new.count as usize] = slot;
             new = new.and_one(slot.tag);
         }

@@ -1,11 +1,14 @@
 //! A slot of the table, and the head of a bucket.
 
-ghost use Rattle.std.specs.Prelude.{◌≡◌, ℕ, ◌+◌, ◌<◌, true, length, slice_set};
+ghost use Rattle.std.specs.Prelude.{◌≡◌, ℕ, ◌+◌, ◌<◌, ◌%◌, true, length, slice_set};
 ghost use Rattle.capn_digests.specs.Tag.{tag, marks, more};
 ghost use Rattle.capn_digests.specs.Buckets.{IsMarked};
 
 /// The number of slots of a bucket.
 pub(crate) const SLOTS: usize = 16;
+
+/// A slot in the middle of a bucket, near the first free one.
+const NEXT: usize = 6;
 
 /// The entry of one digest in a bucket: the tag of the digest, and the index of the digest in the list.
 #[derive(Clone, Copy)]
@@ -43,6 +46,20 @@ pub(crate) fn tag_of(digest: &[u8; 32]) -> u32
         + digest[1] as u32 * 0x100
         + digest[2] as u32 * 0x1_0000
         + digest[3] as u32 * 0x100_0000
+}
+
+/// Returns the bucket of `tag` among `buckets` buckets. No division is made if `buckets` is a power of two, as it is in
+/// every table that doubled from one bucket.
+#[inline(always)]
+pub(crate) fn home_of(tag: u32, buckets: usize) -> usize
+    requires { 0 < buckets }
+    ensures { result ≡ tag % buckets }
+{
+    let zeros = buckets.trailing_zeros() % usize::BITS;
+    if 1usize << zeros == buckets {
+        return tag as usize & (buckets - 1);
+    }
+    tag as usize % buckets
 }
 
 /// Returns the mask of the one or two bits that `tag` sets in `marks` of a head.
@@ -89,6 +106,18 @@ impl Head {
             overflowed: self.overflowed,
         }
     }
+}
+
+/// Returns `false` only if no digest with `tag`, a tag of this bucket, is in the bucket or in the tree.
+///
+/// `head` decides nearly always. The processor waits for `head` and for `bucket` at the same time, because the address
+/// of neither depends on the other. So a slot that is put into `bucket` next has no wait of its own.
+#[inline(always)]
+pub(crate) fn may_be_in(head: &Head, bucket: &[Slot; SLOTS], tag: u32) -> bool
+    ensures marked { IsMarked head.now tag → result ≡ true }
+    ensures overflowed { head.now.overflowed ≡ true → result ≡ true }
+{
+    bucket[NEXT].tag == tag || head.may_have(tag)
 }
 
 /// Puts `slot` into `bucket` at index `place`.

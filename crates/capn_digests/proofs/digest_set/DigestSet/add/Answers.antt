@@ -27,8 +27,9 @@ index_mut-requires g c =
     let some : 0 < length heads = c.in_ok-make_room.ensures.some in
     let count : c.len.result ≡ length heads = c.len.ensures ∙ c.make_room.new.heads.ok.0 in
     let long : c.make_room.new.table.len ≡ length table = c.make_room.new.table.ok.0 in
-    let less : c.tag_of-tag.result % c.len.result < c.len.result =
-    mod-lt c.tag_of-tag.result {m = c.len.result} (omega arith) in
+    let less : c.home_of-home.result < c.len.result =
+    subst (λ (k : ℕ). k < c.len.result) (sym c.home_of-home.ensures)
+    (mod-lt c.tag_of-tag.result {m = c.len.result} (omega arith)) in
     omega arith
 
 pub invariant_of-self-then-at : goal.invariant_of-self-then-at
@@ -53,14 +54,20 @@ invariant_of-self-then-at g c =
     (record { tag = c.tag_of-tag.result; at = c.len-at.result }) in
     let new_table : List (List Slot) = set table (c.tag_of-tag.result % c.len.result) bucket in
     let whole : length c.index_mut.result.now ≡ 16 = c.put.ensures.whole in
-    subst (λ (b : List Slot). IsIndexed c.push.new.self.items new_heads
+    let head : c.index-head.result.now ≡ get_or heads (c.tag_of-tag.result % c.len.result) c.index-head.result.now =
+    c.index-head.ensures ∙ ap (λ (k : ℕ). get_or heads k c.index-head.result.now) c.home_of-home.ensures in
+    let own : c.index_mut.result.now ≡ get_or table (c.tag_of-tag.result % c.len.result) c.index_mut.result.now =
+    c.index_mut.ensures.value ∙ ap (λ (k : ℕ). get_or table k c.index_mut.result.now) c.home_of-home.ensures in
+    subst (λ (k : ℕ). IsIndexed c.push.new.self.items (set heads k c.and_one.result)
+    (set table k c.put.new.bucket) s.rest.keys) (sym c.home_of-home.ensures)
+    (subst (λ (b : List Slot). IsIndexed c.push.new.self.items new_heads
     (set table (c.tag_of-tag.result % c.len.result) b) s.rest.keys) (sym c.put.ensures.set)
     (subst (λ (xs : List (List ℕ)). IsIndexed xs new_heads new_table s.rest.keys) (sym items)
     (indexed_listed s.list.items s.heads.items s.table.items s.rest.keys d c.self.invariant lacks new_heads new_table
     (found_added s.list.items heads table s.rest.keys d f c.tag_of-tag.result c.len.result c.tag_of-tag.ensures count
-    (omega arith) c.index-head.result.now c.index-head.ensures c.and_one.result
+    (omega arith) c.index-head.result.now head c.and_one.result
     (record { count = c.and_one.ensures.count; kept = c.and_one.ensures.kept }) c.and_one.ensures.marked
-    c.and_one.ensures.overflowed c.index_mut.result.now c.index_mut.ensures.value (omega arith) c.len-at.result last)))
+    c.and_one.ensures.overflowed c.index_mut.result.now own (omega arith) c.len-at.result last))))
 
 pub invariant_of-self-in_err-insert : goal.invariant_of-self-in_err-insert
 invariant_of-self-in_err-insert g c =
@@ -96,11 +103,15 @@ invariant_of-self-else-head-lt-SLOTS g c =
     let more : length c.insert.new.self.keys ≡ length s.rest.keys + 1 =
     one_more s.list.items s.rest.keys d lacks c.in_ok-insert.field-0 c.in_ok-insert.ensures.added
     (length c.insert.new.self.keys) c.in_ok-insert.ensures.len in
-    subst (λ (xs : List (List ℕ)). IsIndexed xs new_heads table c.insert.new.self.keys) (sym c.make_room.ensures.same)
+    let head : c.index-head.result.now ≡ get_or heads (c.tag_of-tag.result % c.len.result) c.index-head.result.now =
+    c.index-head.ensures ∙ ap (λ (k : ℕ). get_or heads k c.index-head.result.now) c.home_of-home.ensures in
+    subst (λ (k : ℕ). IsIndexed c.make_room.new.list.items (set heads k flag) table c.insert.new.self.keys)
+    (sym c.home_of-home.ensures)
+    (subst (λ (xs : List (List ℕ)). IsIndexed xs new_heads table c.insert.new.self.keys) (sym c.make_room.ensures.same)
     (indexed_other s.list.items s.heads.items s.table.items s.rest.keys d c.self.invariant lacks new_heads table
     c.insert.new.self.keys c.in_ok-insert.ensures.keys more
     (found_in_tree s.list.items heads table s.rest.keys d f c.tag_of-tag.result c.len.result c.tag_of-tag.ensures count
-    (omega arith) c.index-head.result.now c.index-head.ensures))
+    (omega arith) c.index-head.result.now head)))
 
 pub returns-in_ok-push-clause-added : goal.returns-in_ok-push-clause-added
 returns-in_ok-push-clause-added g c =
@@ -162,7 +173,8 @@ returns-in_ok-insert-clause-grown g c =
     let some : 0 < length heads = c.in_ok-make_room.ensures.some in
     let home : c.index-head.result.now ≡ get_or heads (tag d % length heads) no_head =
     read_at_home heads no_head d (length heads) c.tag_of-tag.result c.len.result c.index-head.result.now
-    c.tag_of-tag.ensures count (omega arith) refl c.index-head.ensures in
+    c.tag_of-tag.ensures count (omega arith) refl
+    (c.index-head.ensures ∙ ap (λ (k : ℕ). get_or heads k c.index-head.result.now) c.home_of-home.ensures) in
     let own : c.index-head.result.now.count ≡ count_of heads (tag d) = ap (λ (h : Head). h.count) home in
     elim c.else-head-lt-SLOTS.branch [
       | else-head-lt-SLOTS-via-then-head-lt-SLOTS+else-at w ↦ let no = w.if-at.false in absurd (omega arith)
