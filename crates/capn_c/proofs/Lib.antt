@@ -26,6 +26,7 @@ pub mod Indexed
 pub mod Least
 pub mod Lent
 pub mod Listed
+pub mod Measures
 pub mod OfMessage
 pub mod OneBare
 pub mod OutOfMemory

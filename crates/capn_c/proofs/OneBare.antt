@@ -1,24 +1,16 @@
--- The number of words of a segment, and the survey that says whether a message of one segment is canonical. (For
--- `words_at`.)
-use Rattle.std.proofs.Common.{◌≡◌, ◌↔◌, ℕ, List, length, ap, sym, ◌∙◌, Option, Some, None}
-use Rattle.std.specs.Option.{unwrap_or}
-use Rattle.capn_words.specs.Message.{segment_at, words_of, bytes}
+-- The survey that says whether a message of one segment is canonical. (For `figures_counted`.)
+use Rattle.std.proofs.Common.{◌≡◌, ◌↔◌, ℕ, List, length, ap, sym, ◌∙◌}
+use Rattle.capn_words.specs.Message.{segment_at, bytes}
 use Rattle.capn_walk.specs.Accepted.{root}
 use Rattle.std.specs.Bool.{IsTrue}
 use Rattle.capn_value.specs.FirstCap.{first_cap}
 use Rattle.capn_walk.specs.Limits.{Bounds}
-use Rattle.capn_target.proofs.shared.Segments.{length_of_none, length_of_some}
 use Rattle.capn_walk.proofs.shared.Unique.{unique}
 use Rattle.capn_target.proofs.shared.OneBare.{only-segment}
 use Rattle.capn_canon.specs.Measure.{IsChecked}
 use Rattle.capn_canon.specs.Layout.{canon}
 use Rattle.capn_canon.specs.declared.surveyed_bare.SurveyedBare.{SurveyedBare}
 use Rattle.capn_c.specs.Figures.{IsCanonicalMessage}
-
-pub words-at : (m : List (List ℕ)) (s : ℕ) (r : Option ℕ) (n : ℕ) → r ≡ words_of m s → n ≡ unwrap_or r 0
-    → n ≡ length (segment_at m s)
-words-at m s None n e f = f ∙ sym (length_of_none m s (sym e))
-words-at m s (Some k) n e f = f ∙ sym (length_of_some m s k (sym e))
 
 -- A message is canonical if and only if its survey `c` says so, since the message has only one value.
 pub canonical-message : (m : List (List ℕ)) (limits : Bounds) (c : SurveyedBare) → IsChecked m limits c

@@ -4,3 +4,4 @@ pub mod Lent
 pub mod Reported
 pub mod RunHeld
 pub mod Written
+pub mod Indexing

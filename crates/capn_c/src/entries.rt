@@ -1,11 +1,12 @@
 //! The entries of an index as C reads them, with offsets in bytes in place of segments and words.
 
-ghost use Rattle.std.specs.Prelude.{◌≡◌, ◌≤◌, ◌++◌, length, drop, get_or};
-ghost use Rattle.capn_words.specs.Message.{segment_at};
+ghost use Rattle.std.specs.Prelude.{◌≡◌, ◌≤◌, ◌++◌, ◌+◌, ◌*◌, length, drop, get_or};
 ghost use Rattle.capn_c.specs.Entries.{c_entry, kind_number, starts_from};
 
+use capn_target::counted::{CountedSpace, Reads, segment_length};
 use capn_walk::{Entry, EntryForm, Kind};
 use capn_words::Space;
+use std::sync::ledger::Ledger;
 
 /// An entry of an index. It describes the target of the pointer in one slot.
 #[derive(Clone, Copy)]
@@ -108,24 +109,25 @@ impl<'a> EntryForm for Offsets<'a> {
     }
 }
 
-/// Returns the number of words of `segment`.
-fn words_at<S: Space>(space: &S, segment: u32) -> u32
-    ensures { result ≡ length (segment_at (S.message space.now) segment) }
-{
-    space.words(segment).unwrap_or(0)
-}
-
-/// Writes to `starts` the word at which each segment of `space` begins, counted from the end of the table. The other
-/// numbers of `starts` are unchanged.
+/// Writes to `starts` the word at which each of the `segments` segments of `space` begins, counted from the end of the
+/// table. The other numbers of `starts` are unchanged. One read and one turn of the loop are counted for each segment.
 #[tactic(auto, using(std::proofs::lemmas::List::Sums::sum_by_more_le))]
-pub fn put_starts<S: Space>(space: &S, starts: &mut [u32])
-    requires { length (S.message space.now) ≤ length starts.old }
-    ensures { starts.new ≡ starts_from 0 (S.message space.now)
-        ++ drop (length (S.message space.now)) starts.old }
+pub fn put_starts<S: Space, L: Ledger>(
+    space: &CountedSpace<'_, S, L>,
+    segments: u32,
+    starts: &mut [u32],
+    reads: &mut Reads<L>,
+)
+    requires segments { segments ≡ length space.now }
+    requires room { length space.now ≤ length starts.old }
+    ensures starts { starts.new ≡ starts_from 0 space.now ++ drop (length space.now) starts.old }
+    ensures reads { reads.new ≤ reads.old + 2 * segments }
 {
+    space.bounds();
     let mut total = 0;
-    for segment in 0..space.segments() {
+    for segment in 0..segments {
+        reads.tick();
         starts[segment as usize] = total;
-        total += words_at(space, segment);
+        total += segment_length(space, segment, reads);
     }
 }

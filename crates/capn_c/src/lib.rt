@@ -21,6 +21,7 @@ mod canonical_segments_call;
 mod check_call;
 mod check_segments_call;
 mod compared;
+mod counted_measure;
 pub mod decision;
 mod departed;
 mod departure_call;

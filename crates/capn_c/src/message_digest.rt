@@ -1,7 +1,9 @@
 //! The digest of the canonical bytes of a message, in any form or in segments. A canonical message is hashed in place.
 
-ghost use Rattle.std.specs.Prelude.{◌≡◌, ◌≤◌, ℕ, List, None, IfSome, IfOk, IfErr, IsErrOf, MatchResult};
+ghost use Rattle.std.specs.Prelude.{◌≡◌, ◌+◌, ◌*◌, ◌≤◌, ℕ, List, None, length, IfSome, IfOk, IfErr, IsErrOf};
+ghost use Rattle.std.specs.Prelude.{MatchResult};
 ghost use Rattle.sha2.specs.Sha256.{sha256};
+ghost use Rattle.capn_words.specs.Message.{bytes as bytes_of, segment_at};
 ghost use Rattle.capn_value.specs.Tree.{Tree as Value};
 ghost use Rattle.capn_walk.specs.Accepted.{IsValueOf};
 ghost use Rattle.capn_canon.specs.Denotes.{Answers, AnswersMessage};
@@ -12,14 +14,18 @@ ghost use Rattle.capn_canon.specs.declared.refusal.Refusal.TheVariants as refusa
 ghost use Rattle.capn_stream.specs.Segments.{message_of};
 ghost use Rattle.capn_c.specs.Held.{AnswersHeld, IsRefusedHeld};
 ghost use Rattle.capn_c.specs.MadeBytes.{MayNeedToMake};
-ghost use Rattle.capn_c.specs.inner.Told.{IsDigestTold};
+ghost use Rattle.capn_c.specs.inner.Told.{IsDigestTold, IsHashTold};
 
 use crate::held_message::run_held;
-use capn_canon::{Form, MessageTask, Refusal, canonical_of, own_canonical, run_task};
+use capn_canon::{
+    Form, MessageTask, Refusal, canonical_of_counted, run_task, survey_canonical_counted,
+};
+use capn_target::counted::{Asked, CountedSpace, CountedTask, Reads};
 use capn_walk::Limits;
-use capn_words::Space;
+use capn_words::{Place, Space};
 use sha2::{Digest, Sha256};
 use std::alloc::Global;
+use std::sync::ledger::Ledger;
 
 /// The digest of a message's canonical bytes, and the price of the message.
 #[derive(Drop)]
@@ -30,19 +36,152 @@ pub struct Digested {
     pub paid: u32,
 }
 
-/// Returns the digest of the message `space`, hashed in place, or `None` if `space` is not canonical or is refused.
-fn digest_in_place<S: Space>(space: &S, limits: Limits) -> Option<Digested>
-    ensures found { IfSome result (λ d. (text : List ℕ) × AnswersMessage (S.message space.now) limits text d.paid
-        × (d.digest ≡ sha256 text)) }
-    ensures other { result ≡ None → (v : Value) → IsValueOf (S.message space.now) limits v
-        → IsCanonicalOf (S.message space.now) v → ⊥ }
+/// What is found before the bytes of a message are hashed in place.
+#[derive(Drop)]
+pub enum Hashed {
+    /// The bytes of the message are canonical, and have to be hashed. The number is the price of the message.
+    InPlace(u32),
+    /// The message is not canonical. Its canonical bytes were made and hashed.
+    Made(Digested),
+}
+
+/// Returns the price of the message `space` of one segment if the bytes of the segment are canonical, and otherwise
+/// `None`.
+#[inline(always)]
+fn price_of_one<S: Space, L: Ledger>(
+    space: &CountedSpace<'_, S, L>,
+    limits: Limits,
+    reads: &mut Reads<L>,
+) -> Option<u32>
+    requires one { length space.now ≡ 1 }
+    ensures found { IfSome result (λ paid.
+        AnswersMessage space.now limits (bytes_of (segment_at space.now 0)) paid) }
+    ensures other { result ≡ None → (v : Value) → IsValueOf space.now limits v → IsCanonicalOf space.now v → ⊥ }
+    ensures bounded { IfSome result (λ paid. paid ≤ limits.budget) }
+    ensures reads { reads.new ≤ reads.old + 10 * limits.budget + 8 }
 {
-    let own = own_canonical(space, limits)?;
-    let digest = Sha256::digest(own.bytes);
-    Some(Digested {
-        digest,
-        paid: own.paid,
-    })
+    match survey_canonical_counted(space, limits, reads) {
+        Some(surveyed) => {
+            if surveyed.is_canonical {
+                Some(surveyed.paid)
+            } else {
+                None
+            }
+        }
+        None => None,
+    }
+}
+
+/// Returns the price of the message `space` if the message is canonical, and otherwise `None`.
+#[inline(always)]
+fn price_of_own<S: Space, L: Ledger>(
+    space: &CountedSpace<'_, S, L>,
+    limits: Limits,
+    reads: &mut Reads<L>,
+) -> Option<u32>
+    ensures one { IfSome result (λ _. length space.now ≡ 1) }
+    ensures found { IfSome result (λ paid.
+        AnswersMessage space.now limits (bytes_of (segment_at space.now 0)) paid) }
+    ensures other { result ≡ None → (v : Value) → IsValueOf space.now limits v → IsCanonicalOf space.now v → ⊥ }
+    ensures bounded { IfSome result (λ paid. paid ≤ limits.budget) }
+    ensures reads { reads.new ≤ reads.old + 10 * limits.budget + 11 }
+{
+    match space.only_segment(reads) {
+        Some(only) => price_of_one(&only.space(), limits, reads),
+        None => None,
+    }
+}
+
+/// Tests whether the message `space` is canonical. If it is not, makes its canonical bytes and hashes them. Reads and
+/// turns of loops are counted in `reads`.
+#[inline(always)]
+fn hash_counted<S: Space, L: Ledger>(
+    alloc: Global,
+    space: &CountedSpace<'_, S, L>,
+    limits: Limits,
+    reads: &mut Reads<L>,
+) -> Result<Hashed, Refusal>
+    ensures told { IsHashTold space.now limits result }
+    ensures reads { reads.new ≤ reads.old + 67 * (limits.budget + 1) }
+{
+    let _budget = limits.budget();
+    match price_of_own(space, limits, reads) {
+        Some(paid) => Ok(Hashed::InPlace(paid)),
+        None => {
+            let canonical = canonical_of_counted(alloc, space, limits, reads)?;
+            let digest = Sha256::digest(canonical.bytes.as_slice());
+            Ok(Hashed::Made(Digested {
+                digest,
+                paid: canonical.paid,
+            }))
+        }
+    }
+}
+
+/// The task of `hash_message`: finds whether the message that it is run on is canonical, or hashes its canonical bytes.
+#[derive(Drop)]
+struct HashTask {
+    alloc: Global,
+    limits: Limits,
+}
+
+impl CountedTask for HashTask {
+    type Told = Result<Hashed, Refusal>;
+
+    ghost use Rattle.std.specs.Prelude.{◌+◌, ◌*◌};
+    ghost use Rattle.capn_c.specs.inner.Told.{IsHashTold};
+
+    ghost tells = { λ t m r. IsHashTold m t.limits r };
+
+    ghost most = { λ t. 67 * (t.limits.budget + 1) };
+
+    #[inline(always)]
+    fn run<S: Space, L: Ledger>(
+        self,
+        space: &CountedSpace<'_, S, L>,
+        reads: &mut Reads<L>,
+    ) -> Result<Hashed, Refusal> {
+        hash_counted(self.alloc, space, self.limits, reads)
+    }
+}
+
+/// Tests whether the message `space` is canonical. If it is not, makes its canonical bytes and hashes them. A message
+/// without canonical bytes is refused.
+///
+/// `space` is any [`Asked`], so the clause `work` bounds how often the message is read.
+#[inline(always)]
+fn hash_message<M: Asked>(alloc: Global, space: M, limits: Limits) -> Result<Hashed, Refusal>
+    // `space` must allow 67 * (budget + 1) reads and turns of loops, and one more to start the count.
+    requires work { M.allows space (67 * (limits.budget + 1) + 1) }
+    ensures { IsHashTold (M.message space) limits result }
+{
+    space.ask(HashTask { alloc, limits })
+}
+
+/// Returns the digest of the bytes of the only segment of the message `space`. Each byte is read once.
+#[inline(always)]
+fn digest_of_segment<S: Space>(space: &S) -> [u8; 32]
+    requires one { length (S.message space.now) ≡ 1 }
+    ensures { result ≡ sha256 (bytes_of (segment_at (S.message space.now) 0)) }
+{
+    let _segments = space.segments();
+    let words = space.words(0).unwrap_or(0);
+    Sha256::digest(space.bytes(Place::ROOT, 8 * words as usize))
+}
+
+/// Returns the digest of the canonical bytes of the message `space`. The bytes of a canonical message are hashed in
+/// place.
+#[inline(always)]
+fn digest_of<S: Space>(alloc: Global, space: &S, limits: Limits) -> Result<Digested, Refusal>
+    ensures { IsDigestTold (S.message space.now) limits result }
+{
+    match hash_message(alloc, space, limits)? {
+        Hashed::InPlace(paid) => Ok(Digested {
+            digest: digest_of_segment(space),
+            paid,
+        }),
+        Hashed::Made(digested) => Ok(digested),
+    }
 }
 
 /// The task of `digest_in` and `digest_held`, which makes canonical bytes only if the message is not canonical.
@@ -54,21 +193,14 @@ impl MessageTask<Global> for Hash {
 
     ghost answers = { λ _ m limits r _. IsDigestTold m limits r };
 
+    #[inline(always)]
     fn run<S: Space>(
         &mut self,
         alloc: Global,
         message: &S,
         limits: Limits,
     ) -> Result<Digested, Refusal> {
-        if let Some(own) = digest_in_place(message, limits) {
-            return Ok(own);
-        }
-        let canonical = canonical_of(alloc, message, limits)?;
-        let digest = Sha256::digest(canonical.bytes.as_slice());
-        Ok(Digested {
-            digest,
-            paid: canonical.paid,
-        })
+        digest_of(alloc, message, limits)
     }
 }
 

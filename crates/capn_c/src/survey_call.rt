@@ -1,6 +1,7 @@
 //! The call `capn_survey`, which finds the figures of a message in any form.
 
-ghost use Rattle.std.specs.Prelude.{IsTrue, ◌≡◌, ◌≢◌, ◌⊎◌, ◌↔◌, ◌≤◌};
+ghost use Rattle.std.specs.Prelude.{IsTrue, ◌≡◌, ◌≢◌, ◌⊎◌, ◌↔◌, ◌+◌, ◌*◌, ◌≤◌};
+ghost use Rattle.capn_words.specs.Message.{most_segments};
 ghost use Rattle.capn_value.specs.Tree.{Tree as Value};
 ghost use Rattle.capn_walk.specs.Accepted.{IsBounded};
 ghost use Rattle.capn_canon.specs.Denotes.{Denotes};
@@ -17,22 +18,24 @@ use crate::message_figures::figures_in;
 use capn_abi::{
     BAD_FORM, CapnLimits, CapnReport, DONE, answer_of, form_of, limits_of, refuse, report_at,
 };
-use capn_canon::Form;
+use capn_canon::{AskedInput, Form};
 use capn_walk::Limits;
 use std::alloc::Global;
 
-/// Writes to `figures` the figures of the message that `bytes` encode in `form`, and reports the result.
-fn survey_in(
+/// Writes to `figures` the figures of the message that `bytes` encode in `form`, and reports the result. The clause
+/// `work` bounds how often the message is read.
+fn survey_in<B: AskedInput>(
     alloc: Global,
     form: Form,
-    bytes: &[u8],
+    bytes: B,
     limits: Limits,
     figures: &mut CapnFigures,
     report: &mut CapnReport,
 ) -> u32
-    ensures told { IsDoneIn form bytes.now limits (FiguresIn form bytes.now limits figures.new
+    requires work { B.allows bytes (24 * (limits.budget + 1) + 2 * most_segments + 3 + 1) }
+    ensures told { IsDoneIn form (B.bytes bytes) limits (FiguresIn form (B.bytes bytes) limits figures.new
         × (report.new ≡ answered 0 figures.new.paid figures.new.visits))
-        (MayNeedMemory form bytes.now limits) result report.new }
+        (MayNeedMemory form (B.bytes bytes) limits) result report.new }
     ensures kept { result ≢ 0 → figures.new ≡ figures.old }
 {
     match figures_in(alloc, form, bytes, limits) {

@@ -1,7 +1,8 @@
 -- The results of the private functions for one message or two messages.
-use Rattle.std.specs.Prelude.{IsTrue, ◌≡◌, ◌≢◌, ◌↔◌, ◌≤◌, ℕ, Bool, List, None}
-use Rattle.std.specs.Prelude.{Result, IfOk, IfErr, IsErrOf, MatchResult}
+use Rattle.std.specs.Prelude.{IsTrue, ◌≡◌, ◌≢◌, ◌↔◌, ◌≤◌, ℕ, Bool, List, None, length}
+use Rattle.std.specs.Prelude.{Result, IfOk, IfErr, IsOk, IsErrOf, MatchResult}
 use Rattle.sha2.specs.Sha256.{sha256}
+use Rattle.capn_words.specs.Message.{bytes, segment_at}
 use Rattle.capn_value.specs.FirstCap.{first_cap}
 use Rattle.capn_value.specs.Same.{Same}
 use Rattle.capn_value.specs.Tree.{Tree}
@@ -18,9 +19,12 @@ use Rattle.capn_canon.specs.Refusal.{IsPaidWithin, IsRefused, IsRefusedMessage, 
 use Rattle.capn_canon.specs.declared.form.Form.{Form}
 use Rattle.capn_canon.specs.declared.refusal.Refusal.{Refusal}
 use Rattle.capn_canon.specs.declared.refusal.Refusal.TheVariants as refusals
+use Rattle.capn_c.specs.Figures.{AreFigures}
 use Rattle.capn_c.specs.Shown.{ShowsMessage}
 use Rattle.capn_c.specs.declared.figures.CapnFigures.{CapnFigures}
 use Rattle.capn_c.specs.declared.message_digest.Digested.{Digested}
+use Rattle.capn_c.specs.declared.message_digest.Hashed.{Hashed}
+use Rattle.capn_c.specs.declared.message_digest.Hashed.TheVariants as hashed
 use Rattle.capn_c.specs.declared.message_text.ShownText.{ShownText}
 
 -- If `r` is `Ok`, it has the text and the survey of `message`. If `r` is an `Err`, its refusal is true of `message`
@@ -35,6 +39,28 @@ pub record IsTextTold (message : List (List ℕ)) (limits : Bounds) (style : Sty
   pub bounded : MatchResult r (λ x. IsBounded limits.budget x.survey.paid x.survey.visits)
       (λ e. IsPaidWithin limits.budget e)
 
+-- `InPlace` has the price of `message`, whose only segment has its canonical bytes. `Made` has the digest of the
+-- canonical bytes of `message`, and the price.
+abbrev pub IsHashed : List (List ℕ) → Bounds → Hashed → Type 0
+IsHashed message limits (hashed.InPlace price) =
+    (length message ≡ 1) × AnswersMessage message limits (bytes (segment_at message 0)) price
+IsHashed message limits (hashed.Made d) =
+    (text : List ℕ) × AnswersMessage message limits text d.paid × (d.digest ≡ sha256 text)
+
+-- the price that is found before a message is hashed in place
+abbrev pub hashed_price : Hashed → ℕ
+hashed_price (hashed.InPlace price) = price
+hashed_price (hashed.Made d) = d.paid
+
+-- If `r` is `Ok`, `IsHashed` holds of it. If `r` is an `Err`, its refusal is true of `message` (`IsRefusedMessage`),
+-- and is `Memory` only if `message` has canonical bytes but isn't canonical.
+pub record IsHashTold (message : List (List ℕ)) (limits : Bounds) (r : Result Hashed Refusal) : Type 0 where
+  pub found : IfOk r (λ h. IsHashed message limits h)
+  pub refused : IfErr r (λ e. IsRefusedMessage message limits e)
+  pub memory : IsErrOf r refusals.Memory → MayNeedBytes message limits
+  pub made : IsErrOf r refusals.Memory → (v : Tree) → IsValueOf message limits v → IsCanonicalOf message v → ⊥
+  pub bounded : MatchResult r (λ h. hashed_price h ≤ limits.budget) (λ e. IsPaidWithin limits.budget e)
+
 -- If `r` is `Ok`, it has the digest of the canonical bytes of `message` and the price. If `r` is an `Err`, its refusal
 -- is true of `message` (`IsRefusedMessage`), and is `Memory` only if `message` has canonical bytes but isn't canonical.
 pub record IsDigestTold (message : List (List ℕ)) (limits : Bounds) (r : Result Digested Refusal) : Type 0 where
@@ -43,6 +69,15 @@ pub record IsDigestTold (message : List (List ℕ)) (limits : Bounds) (r : Resul
   pub memory : IsErrOf r refusals.Memory → MayNeedBytes message limits
   pub made : IsErrOf r refusals.Memory → (v : Tree) → IsValueOf message limits v → IsCanonicalOf message v → ⊥
   pub bounded : MatchResult r (λ d. d.paid ≤ limits.budget) (λ e. IsPaidWithin limits.budget e)
+
+-- If `r` is `Ok`, it has the figures of `message`. If `r` is an `Err`, its refusal says why `message` is not accepted,
+-- and is not `Memory`. The number of words paid, in an `Ok` or in a refusal by the walk, is at most the budget.
+pub record AreFiguresFound (message : List (List ℕ)) (limits : Bounds) (r : Result CapnFigures Refusal) : Type 0 where
+  pub found : IfOk r (λ f. AreFigures message limits f)
+  pub only : (v : Tree) → IsValueOf message limits v → IsOk r
+  pub refused : IfErr r (λ e. IsUnaccepted message limits e)
+  pub no_memory : IfErr r (λ e. e ≢ refusals.Memory)
+  pub bounded : MatchResult r (λ f. IsBounded limits.budget f.paid f.visits) (λ e. IsPaidWithin limits.budget e)
 
 -- If `r` is `Ok`, `are` holds of the figures in it. If `r` is an `Err`, `reason` holds of the refusal in it, which is
 -- `Memory` only if `needed` holds. The number of words paid, in an `Ok` or in a refusal by the walk, is at most

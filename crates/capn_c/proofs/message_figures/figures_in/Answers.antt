@@ -7,7 +7,7 @@ use Rattle.capn_c.proofs.FiguresTold.{figures_read}
 use Rattle.capn_c.proofs.message_figures.figures_in.Goals as goal
 
 pub returns : goal.returns
-returns c =
-    figures_read c.args.form c.args.bytes.now c.args.limits c.run_task.result
-    (run_answered (λ m l x. AreFiguresTold (AreFigures m l) (IsUnaccepted m l) ⊥ l.budget x) _ _ _ _ _ _
-    c.run_task.ensures)
+returns g c =
+    let r = c.ask_message-answer in
+    figures_read c.args.form (g.B.AskedInput.bytes c.args.bytes) c.args.limits r.result.0
+    (run_answered (λ m l x. AreFiguresTold (AreFigures m l) (IsUnaccepted m l) ⊥ l.budget x) _ _ _ _ _ _ r.ensures)
