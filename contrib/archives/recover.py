@@ -204,9 +204,9 @@ class Archive:
         return 0
 
     def between(self, bad: Message, good: int) -> Iterator[Span]:
-        """Yields the bytes from a bad message up to the next message that is like the sample. The segment tables may
-        lead from the bad message exactly to the good one. Then they say where each message between these two begins,
-        and an accepted message between them is kept, even if it isn't like the sample."""
+        """Yields spans of the bytes from a bad message up to the next message that is like the sample. If the segment
+        tables lead from the bad message exactly to that good message, they say where each message between the two
+        begins. An accepted message between the two is then kept, even if it isn't like the sample."""
         end = bad.begin
         with closing(listed(self.path, bad.begin)) as found:
             for message in found:

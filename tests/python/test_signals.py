@@ -61,7 +61,8 @@ def taken(found):
 
 
 class EachCall(unittest.TestCase):
-    """Reads each stream many times. In each run, the exception is raised in a later call of the package."""
+    """Reads each stream many times. In each run, an exception interrupts one of the calls inside the package. Each run
+    is interrupted in a later call than the run before it."""
 
     def files(self, data, folder):
         """Yields functions that each make a file with the given bytes. The kinds of files differ."""
