@@ -7,3 +7,5 @@ pub mod OneServing
 pub mod Until
 pub mod AfterMessages
 pub mod Wrote
+pub mod Finishes
+pub mod SkipFaults

@@ -13,8 +13,10 @@ pub mod Pick
 pub mod PickRun
 pub mod FormRun
 pub mod WhatCame
+pub mod Finish
 pub mod FaultText
 pub mod Skipped
+pub mod SkipFault
 pub mod Table
 pub mod Laws
 pub mod inner

@@ -4,3 +4,4 @@ pub mod Holding
 pub mod Serving
 pub mod IntakeRun
 pub mod Intakes
+pub mod Last

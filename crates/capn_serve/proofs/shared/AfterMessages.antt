@@ -1,6 +1,7 @@
--- Lemmas for the runs of capn_archive and capn_explain: text that follows the texts of the messages, and
--- `ServesMessages` with equal arguments.
+-- Lemmas for `run_messages` and for `Finishes`: text that follows the texts of the messages, and `ServesMessages` with
+-- equal arguments.
 use Rattle.std.proofs.Common.{◌≡◌, ℕ, ◌+◌, List, [], ◌++◌, length, take, Bool, Option, Result, inl, inr, sym, subst}
+use Rattle.std.proofs.Common.{IfSome, append-nil}
 use Rattle.std.proofs.Math.Seq.{take-append-add}
 use Rattle.std.specs.Io.KnownBytes.{Appends}
 use Rattle.std.proofs.KnownBytes.{Appends-trans}
@@ -11,7 +12,9 @@ use Rattle.capn_serve.specs.declared.fault.RunFault.{RunFault}
 use Rattle.capn_serve.specs.Fold.{Fold, texts_of}
 use Rattle.capn_serve.specs.StreamRun.{HasWrittenAll, IsAhead}
 use Rattle.capn_serve.specs.PackedRun.{HasWrittenAllPacked}
+use Rattle.capn_serve.specs.Finish.{TellsEnd}
 use Rattle.capn_serve.specs.FormRun.{HasWritten, IsReadSoFar, ServesMessages, most_stream}
+use Rattle.capn_serve.specs.WhatCame.{Came}
 
 pub begun_text : {X : Type 0} (f : Fold X) (x : X) (form : Form) (bytes : List ℕ) (c d : Option (List ℕ))
     → HasWritten f x form bytes c d → (text : List ℕ) × Appends c d text
@@ -35,6 +38,20 @@ read_so_far f x forms.Packed bytes more c m d (bound, ahead) wrote =
     (bound, ahead_more (HasWrittenAllPacked f x most_stream) bytes more c m d ahead wrote)
 read_so_far f x forms.Bare bytes more c m d bound wrote = bound
 
+append_none : (c m d : Option (List ℕ)) (text : List ℕ) → Appends c m text → Appends m d [] → Appends c d text
+append_none c m d text wrote none = subst (Appends c d) (append-nil text) (Appends-trans c m d text [] wrote none)
+
+-- `HasWritten` still holds after nothing more was written.
+pub written_still : {X : Type 0} (f : Fold X) (x : X) (form : Form) (bytes : List ℕ) (c m d : Option (List ℕ))
+    → HasWritten f x form bytes c m → Appends m d [] → HasWritten f x form bytes c d
+written_still f x forms.Stream bytes c m d (parts, rest, y, count, are, wrote) none =
+    (parts, rest, y, count, are, append_none c m d (take count (texts_of parts)) wrote none)
+written_still f x forms.Packed bytes c m d (stream, begins, parts, rest, y, count, are, wrote) none =
+    (stream, begins, parts, rest, y, count, are, append_none c m d (take count (texts_of parts)) wrote none)
+written_still f x forms.Bare bytes c m d (inl wrote) none = inl (append_none c m d [] wrote none)
+written_still f x forms.Bare bytes c m d (inr (text, y, count, writes, wrote)) none =
+    inr (text, y, count, writes, append_none c m d (take count text) wrote none)
+
 -- If `text` and then a prefix of `last` were written, a prefix of `text ++ last` was written.
 pub begun_after : (c m d : Option (List ℕ)) (text last : List ℕ) (count : ℕ) → Appends c m text
     → Appends m d (take count last) → HasBegun c d (text ++ last)
@@ -52,3 +69,12 @@ pub of_order : {X : Type 0} (fold : ℕ → Fold X) (form : Form) (words most : 
 of_order {X = X} fold form words most first x same fresh a b c d reader writer r y ran =
     subst (λ (z : X). ServesMessages (fold words) z form a b c d reader writer r y) fresh
     (subst (λ (n : ℕ). ServesMessages (fold n) x form a b c d reader writer r y) same ran)
+
+-- In `TellsEnd` the limit `most` and the first state `x` may be replaced by equal ones.
+pub told_of_order : {X : Type 0} (fold : ℕ → Fold X) (form : Form) (words most : ℕ) (first x : X) → most ≡ words
+    → x ≡ first → (a : Option (List ℕ)) (r : Result (Unit {0}) RunFault) (came : Came) (y : X)
+    → IfSome a (λ input. TellsEnd (fold most) x form input r came y)
+    → IfSome a (λ input. TellsEnd (fold words) first form input r came y)
+told_of_order {X = X} fold form words most first x same fresh a r came y tells =
+    subst (λ (z : X). IfSome a (λ input. TellsEnd (fold words) z form input r came y)) fresh
+    (subst (λ (n : ℕ). IfSome a (λ input. TellsEnd (fold n) x form input r came y)) same tells)
