@@ -5,3 +5,4 @@ pub mod CmpServed
 pub mod OneComparison
 pub mod AllSame
 pub mod WrittenReports
+pub mod Faithful

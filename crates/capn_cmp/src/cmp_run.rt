@@ -8,8 +8,8 @@ ghost use Rattle.capn_cmp.specs.CmpRun.{Compared};
 use crate::cmp_order::CmpOrder;
 use crate::cmp_service::CmpService;
 use crate::fault::CmpFault;
-use capn_canon::Form;
-use capn_serve::{Run, StreamForm, serve_form};
+use capn_canon::{Form, Refusal};
+use capn_serve::{Begun, Finish, Position, RunFault, StreamForm, run_messages};
 use capn_words::Watched;
 use std::alloc::Allocator;
 use std::io::{Read, Write};
@@ -32,27 +32,65 @@ fn form_of(form: StreamForm) -> Form
     }
 }
 
-/// Returns the result of `run`, whose loop ended without a fault.
-fn found_by<A: Allocator>(run: &Run<CmpService<A>>) -> Result<Comparison, CmpFault>
-    ensures { result ≡ spec.found_by run.now.service.differs run.now.at.index }
-{
-    if run.service.differs() {
-        return Ok(Comparison::Different);
+impl<B: Allocator> Finish for CmpService<B> {
+    ghost use Rattle.capn_cmp.specs.CmpRun as spec;
+    ghost use Rattle.capn_serve.specs.Finish.{no_closing, nothing_told};
+
+    type Found = Comparison;
+
+    type Fault = CmpFault;
+
+    ghost closing = { no_closing };
+
+    ghost told = { nothing_told };
+
+    ghost outcome = { spec.found };
+
+    ghost stops = { spec.stops };
+
+    fn write_closing<W: Write, A: Allocator + Copy>(
+        &self,
+        _alloc: A,
+        _at: Position,
+        _writer: &mut Watched<W>,
+    ) -> Result<(), RunFault> {
+        Ok(())
     }
-    if run.at.index < 2 {
-        return Err(CmpFault::TooFew);
+
+    fn write_told<W: Write, A: Allocator + Copy>(
+        &self,
+        _alloc: A,
+        _at: Position,
+        _refusal: &Refusal,
+        _begun: &Begun<A>,
+        _writer: &mut Watched<W>,
+    ) -> Result<(), RunFault> {
+        Ok(())
     }
-    Ok(Comparison::Same)
+
+    fn outcome(&self, at: Position) -> Result<Comparison, CmpFault> {
+        if self.differs() {
+            return Ok(Comparison::Different);
+        }
+        if at.index < 2 {
+            return Err(CmpFault::TooFew);
+        }
+        Ok(Comparison::Same)
+    }
+
+    fn stops(&self, _at: Position, stopped: RunFault) -> CmpFault {
+        CmpFault::Run(stopped)
+    }
 }
 
 /// Reads the messages of a stream from `reader`, and tests whether all have the value of the first one. Values are the
 /// same if their canonical bytes are equal.
 ///
-/// Input is read as [`serve_form`] reads it, and each message is compared as soon as all of its bytes were read. At the
-/// first message that differs, three lines are written to `writer`, and nothing more is read. The first line shows the
-/// position of the message that differs. The other two lines are the first lines that differ between the texts of the
-/// first message and of that message. The text of a message is what `show --ways --form bare` writes for its canonical
-/// bytes. If no message differs, nothing is written.
+/// Input is read as [`run_messages`] reads it, and each message is compared as soon as all of its bytes were read. At
+/// the first message that differs, three lines are written to `writer`, and nothing more is read. The first line shows
+/// the position of the message that differs. The other two lines are the first lines that differ between the texts of
+/// the first message and of that message. The text of a message is what `show --ways --form bare` writes for its
+/// canonical bytes. If no message differs, nothing is written.
 ///
 /// The result is `Same` if all of the input was served, and its messages, at least two, have the same value. The result
 /// is `Different` after a message that differs. Otherwise the first fault is returned. The fault is `TooFew` if the
@@ -73,11 +111,7 @@ pub fn run_cmp<R: Read, W: Write, A: Allocator + Copy>(
         (W.contents (inner_of writer.old)) (W.contents (inner_of writer.new)) (has_failed reader.new)
         (has_failed writer.new) result }
 {
-    let most = order.limits.message_words();
     let form = form_of(order.form);
-    let mut run = Run::new(CmpService::new(alloc, order.limits));
-    match serve_form(alloc, form, most, &mut run, reader, writer) {
-        Ok(()) => found_by(&run),
-        Err(fault) => Err(CmpFault::Run(fault)),
-    }
+    let service = CmpService::new(alloc, order.limits);
+    run_messages(alloc, form, order.limits, service, reader, writer)
 }
