@@ -9,6 +9,7 @@ pub mod RunLaw
 pub mod WholeRun
 pub mod OneText
 pub mod Verdicts
+pub mod MessagePuts
 pub mod Served
 pub mod EachServed
 pub mod BareServed

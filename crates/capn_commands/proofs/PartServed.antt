@@ -8,7 +8,6 @@ use Rattle.capn_value.specs.Tree.{Tree}
 use Rattle.capn_walk.specs.Accepted.{IsValueOf, IsWalkRefused}
 use Rattle.capn_walk.specs.Limits.{Bounds}
 use Rattle.capn_walk.specs.declared.walk_answer.Stopped.{Stopped}
-use Rattle.capn_walk.proofs.shared.Plain.{plain-refusal}
 use Rattle.capn_canon.specs.declared.refusal.Refusal.{Refusal}
 use Rattle.capn_canon.specs.declared.refusal.Refusal.TheVariants as refusals
 use Rattle.capn_show.specs.Outgoing.{Outgoing, Adds}
@@ -72,9 +71,7 @@ module _ (m : List (List ℕ)) (limits : Bounds) (of : Tree → List ℕ) (line 
 
   part_stop : (s : Stopped) (p q : Outgoing) (fault : ServeFault) → IsFaultOf (ends.Stopped s) fault
       → IsUnwritten m limits of (ends.Stopped s) p q → AddsPart m limits of line p q (stopped fault)
-  part_stop s p q fault (inl (memory, is)) (unmoved, refusal) =
-      absurd (plain-refusal m limits s.fault s.place s.paid s.visits refusal memory)
-  part_stop s p q fault (inr (other, is)) (unmoved, refusal) =
+  part_stop s p q fault is (unmoved, refusal) =
       subst (λ (f : ServeFault). AddsPart m limits of line p q (stopped f)) (sym is)
       ((s, refl, refusal), subst (λ (o : Outgoing). Adds p o []) (sym unmoved) (same p))
 

@@ -1,6 +1,6 @@
 -- Lemmas on the verdict line of a bare message. (For `put_verdict`.)
 use Rattle.std.proofs.Common.{◌≡◌, inl, inr, ℕ, List, [], ◌∷◌, ◌++◌, codes, true, false, Result, Ok, Err, ap, sym, ◌∙◌}
-use Rattle.std.proofs.Common.{◌⊎◌, IsErrAnd, refl}
+use Rattle.std.proofs.Common.{◌≢◌, ◌⊎◌, IsErrAnd, refl}
 use Rattle.capn_walk.specs.Limits.{Bounds}
 use Rattle.capn_walk.specs.Accepted.{paid, number_of_visits}
 use Rattle.capn_walk.specs.Accepted as walks
@@ -32,7 +32,16 @@ module _ (words : List ℕ) (limits : Bounds) (c : SurveyedBare) (told : IsBareS
     (told.value, told.is, inl (yes e, same_line (codes " canonical" ++ 10 ∷ []))),
     put,
   )
-  verdict_yes old new (Err fault) e put = (inl put.0, put.1)
+  verdict_yes old new (Err fault) e put = (
+    inl (
+      put.0,
+      (
+        priced c.paid c.visits (codes " canonical" ++ 10 ∷ []),
+        (told.value, told.is, inl (yes e, same_line (codes " canonical" ++ 10 ∷ []))),
+      ),
+    ),
+    put.1,
+  )
 
   pub verdict_no : (old new : List ℕ) (r : Result (Unit {0}) ToolFault) → c.is_canonical ≡ false
       → PutsLine (priced c.paid c.visits (codes " not-canonical" ++ 10 ∷ [])) old new r
@@ -42,12 +51,20 @@ module _ (words : List ℕ) (limits : Bounds) (c : SurveyedBare) (told : IsBareS
     (told.value, told.is, inr (no e, same_line (codes " not-canonical" ++ 10 ∷ []))),
     put,
   )
-  verdict_no old new (Err fault) e put = (inl put.0, put.1)
+  verdict_no old new (Err fault) e put = (
+    inl (
+      put.0,
+      (
+        priced c.paid c.visits (codes " not-canonical" ++ 10 ∷ []),
+        (told.value, told.is, inr (no e, same_line (codes " not-canonical" ++ 10 ∷ []))),
+      ),
+    ),
+    put.1,
+  )
 
 pub verdict_stopped : (words : List ℕ) (limits : Bounds) (s : Stopped) (old : List ℕ) (r : Result (Unit {0}) ToolFault)
     → (s.fault ≡ walk_faults.Memory) ⊎ walks.IsWalkRefused (words ∷ []) limits s.fault s.place s.paid s.visits
-    → IsErrAnd r (IsStopOf s) → PutsBareMessageText kinds.Price words limits old old r
-verdict_stopped words limits s old (Ok u) why is = absurd is
-verdict_stopped words limits s old (Err fault) why (inl (memory, is)) = (inl is, refl)
-verdict_stopped words limits s old (Err fault) (inl memory) (inr (other, is)) = absurd (other memory)
-verdict_stopped words limits s old (Err fault) (inr refused) (inr (other, is)) = (inr (s, is, refused), refl)
+    → s.fault ≢ walk_faults.Memory → IsErrAnd r (IsStopOf s) → PutsBareMessageText kinds.Price words limits old old r
+verdict_stopped words limits s old (Ok u) why never is = absurd is
+verdict_stopped words limits s old (Err fault) (inl memory) never is = absurd (never memory)
+verdict_stopped words limits s old (Err fault) (inr refused) never is = (inr (s, is, refused), refl)

@@ -11,7 +11,6 @@ use Rattle.capn_walk.specs.Limits.{Bounds}
 use Rattle.capn_walk.specs.Accepted.{IsValueOf, paid, number_of_visits}
 use Rattle.capn_walk.specs.Accepted as walks
 use Rattle.capn_walk.specs.declared.walk_answer.Stopped.{Stopped}
-use Rattle.capn_target.specs.declared.target.Fault.TheVariants as walk_faults
 use Rattle.capn_canon.specs.Layout.{canon}
 use Rattle.capn_canon.specs.Denotes.{AnswersMessage}
 use Rattle.capn_canon.specs.Refusal.{IsRefusedMessage}
@@ -51,11 +50,9 @@ IsStopped message limits fault =
     (s : Stopped) × (fault ≡ faults.Refused (refusals.Walk s))
     × walks.IsWalkRefused message limits s.fault s.place s.paid s.visits
 
--- `fault` is `Memory` if the fault of `s` is `Memory`, and otherwise the refusal of a walk that stopped with `s`.
+-- `fault` is the refusal of a walk that stopped with `s`.
 abbrev pub IsStopOf : Stopped → ToolFault → Type 0
-IsStopOf s fault =
-    ((s.fault ≡ walk_faults.Memory) × (fault ≡ faults.Memory))
-    ⊎ ((s.fault ≢ walk_faults.Memory) × (fault ≡ faults.Refused (refusals.Walk s)))
+IsStopOf s fault = fault ≡ faults.Refused (refusals.Walk s)
 
 -- `fault` is the reason why `message` has no text of the given kind. For `Text` and `Price`, the walk of `message` is
 -- refused. For `Digest`, `message` has no canonical bytes.
@@ -84,21 +81,23 @@ IsBareMessageText kinds.Price words limits text =
 IsBareMessageText kinds.Digest words limits text = IsMessageText kinds.Digest (words ∷ []) limits text
 
 -- After `Ok`, `new` is `old ++ text`, where `text` is written for `message` (`IsMessageText`). After `Err`, `new` is
--- `old`, and `fault` is `Memory` or the reason why `message` has no text.
+-- `old`. If `fault` is `Memory`, `message` has a text. Any other `fault` is the reason why `message` has no text.
 abbrev pub PutsMessageText : MessageText → List (List ℕ) → Bounds → List ℕ → List ℕ → Result (Unit {0}) ToolFault
     → Type 0
 PutsMessageText piece message limits old new (Ok u) = (text : List ℕ) × IsMessageText piece message limits text
     × (new ≡ old ++ text)
 PutsMessageText piece message limits old new (Err fault) =
-    ((fault ≡ faults.Memory) ⊎ IsNoMessageText piece message limits fault) × (new ≡ old)
+    (((fault ≡ faults.Memory) × ((text : List ℕ) × IsMessageText piece message limits text))
+    ⊎ IsNoMessageText piece message limits fault) × (new ≡ old)
 
 -- After `Ok`, `new` is `old ++ text`, where `text` is written for the bare message with these `words`. After `Err`,
--- `new` is `old`, and `fault` is `Memory` or the reason why that message has no text.
+-- `new` is `old`. If `fault` is `Memory`, that message has a text. Any other `fault` is the reason why it has no text.
 abbrev pub PutsBareMessageText : MessageText → List ℕ → Bounds → List ℕ → List ℕ → Result (Unit {0}) ToolFault → Type 0
 PutsBareMessageText piece words limits old new (Ok u) = (text : List ℕ) × IsBareMessageText piece words limits text
     × (new ≡ old ++ text)
 PutsBareMessageText piece words limits old new (Err fault) =
-    ((fault ≡ faults.Memory) ⊎ IsNoMessageText piece (words ∷ []) limits fault) × (new ≡ old)
+    (((fault ≡ faults.Memory) × ((text : List ℕ) × IsBareMessageText piece words limits text))
+    ⊎ IsNoMessageText piece (words ∷ []) limits fault) × (new ≡ old)
 
 -- After `Ok`, `new` is `old ++ line`. After `Err`, `fault` is `Memory`, and `new` is `old`.
 abbrev pub PutsLine : List ℕ → List ℕ → List ℕ → Result (Unit {0}) ToolFault → Type 0

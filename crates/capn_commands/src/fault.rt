@@ -5,7 +5,7 @@ ghost use Rattle.capn_commands.specs.declared.fault.ToolFault.TheVariants as fau
 
 use capn_canon::Refusal;
 use capn_serve::RunFault;
-use capn_walk::{Fault, Stopped};
+use capn_walk::Stopped;
 use std::alloc::AllocError;
 use std::io;
 use thiserror::Error;
@@ -66,10 +66,7 @@ impl From<Stopped> for ToolFault {
     ghost from_gives = { IsStopOf };
 
     fn from(stopped: Stopped) -> ToolFault {
-        match stopped.fault {
-            Fault::Memory => ToolFault::Memory,
-            _ => ToolFault::Refused(Refusal::Walk(stopped)),
-        }
+        ToolFault::Refused(Refusal::Walk(stopped))
     }
 }
 

@@ -11,9 +11,9 @@ ghost use Rattle.capn_commands.specs.PartTexts as spec;
 ghost use Rattle.capn_commands.specs.inner.AddedParts.{AddsEnd, AddsPart, IsFaultOf};
 
 use crate::message_marks::{add_marked_end, marks_of};
-use capn_canon::Form;
+use capn_canon::{Form, Refusal};
 use capn_marks::{Marks, show_marked};
-use capn_serve::{Position, ServeFault, Service, fault_of_stop, flush_long};
+use capn_serve::{Position, ServeFault, Service, flush_long};
 use capn_show::{ShowFault, Style, show_part};
 use capn_walk::Limits;
 use capn_words::{Space, Watched, total_words};
@@ -43,7 +43,7 @@ pub(crate) fn fault_of(fault: ShowFault) -> ServeFault
     ensures { IsFaultOf fault result }
 {
     match fault {
-        ShowFault::Stopped(stopped) => fault_of_stop(stopped),
+        ShowFault::Stopped(stopped) => ServeFault::Refused(Refusal::Walk(stopped)),
         ShowFault::Io => ServeFault::Io,
         ShowFault::Memory => ServeFault::Memory,
     }

@@ -1,10 +1,9 @@
 -- The effect of adding the text of a value, and the bytes `end` after that text, to the output of a run.
-use Rattle.std.specs.Prelude.{◌≡◌, ◌≢◌, ◌⊎◌, ℕ, ◌<◌, ◌++◌, List, [], length, Result, Ok, Err}
+use Rattle.std.specs.Prelude.{◌≡◌, ℕ, ◌<◌, ◌++◌, List, [], length, Result, Ok, Err}
 use Rattle.capn_value.specs.Tree.{Tree}
 use Rattle.capn_walk.specs.Accepted.{IsValueOf, IsWalkRefused}
 use Rattle.capn_walk.specs.Limits.{Bounds}
 use Rattle.capn_walk.specs.declared.walk_answer.Stopped.{Stopped}
-use Rattle.capn_target.specs.declared.target.Fault.TheVariants as walk_faults
 use Rattle.capn_canon.specs.declared.refusal.Refusal.TheVariants as refusals
 use Rattle.capn_show.specs.Outgoing.{Outgoing, Adds, BreaksOff}
 use Rattle.capn_show.specs.declared.fault.Broken.TheVariants as broken
@@ -35,11 +34,9 @@ AddsPart message limits of end old new (Err (serve_faults.Refused r)) =
     ((s : Stopped) × (r ≡ refusals.Walk s) × IsWalkRefused message limits s.fault s.place s.paid s.visits)
     × Adds old new []
 
--- `fault` is the `ServeFault` for the given `ShowFault`. A walk that stopped gives `Memory` or its refusal. `Io` stays
--- `Io`, and `Memory` stays `Memory`.
+-- `fault` is the `ServeFault` for the given `ShowFault`. A walk that stopped gives its refusal. `Io` stays `Io`, and
+-- `Memory` stays `Memory`.
 abbrev pub IsFaultOf : ShowFault → ServeFault → Type 0
-IsFaultOf (ends.Stopped s) fault =
-    ((s.fault ≡ walk_faults.Memory) × (fault ≡ serve_faults.Memory))
-    ⊎ ((s.fault ≢ walk_faults.Memory) × (fault ≡ serve_faults.Refused (refusals.Walk s)))
+IsFaultOf (ends.Stopped s) fault = fault ≡ serve_faults.Refused (refusals.Walk s)
 IsFaultOf ends.Io fault = fault ≡ serve_faults.Io
 IsFaultOf ends.Memory fault = fault ≡ serve_faults.Memory

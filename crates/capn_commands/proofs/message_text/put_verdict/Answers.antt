@@ -14,4 +14,5 @@ returns g c =
 pub returns-in_err-checked : goal.returns-in_err-checked
 returns-in_err-checked g c =
     verdict_stopped c.args.space.now c.args.limits c.in_err-checked.field-0.0 c.args.text.now.items
-    c.from_residual.result c.in_err-checked.ensures.refused c.from_residual.ensures.1
+    c.from_residual.result c.in_err-checked.ensures.refused c.in_err-checked.ensures.no_memory
+    c.from_residual.ensures.1

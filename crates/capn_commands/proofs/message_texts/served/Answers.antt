@@ -19,7 +19,7 @@ module _ (s : MessageTexts) (at : Position) (frame : List ℕ) (message : List (
   -- Case: the text of the message was not appended.
   unput : (fault : ToolFault) → PutsMessageText s.piece message s.limits old new (Err fault)
       → PutsMessage serves refuses s at frame message old new (stopped (served_fault fault)) s
-  unput (faults.Refused r) (inl memory, same) = absurd (cc)
+  unput (faults.Refused r) (inl (memory, some), same) = absurd (cc)
   unput (faults.Refused r) (inr why, same) = (why, same)
   unput faults.Memory (why, same) = same
   unput faults.Io (why, same) = same
