@@ -16,15 +16,17 @@ use Rattle.capn_canon.specs.declared.form.Form.{Form}
 use Rattle.capn_canon.specs.declared.form.Form.TheVariants as forms
 use Rattle.capn_serve.specs.declared.fault.RunFault.{RunFault}
 use Rattle.capn_serve.specs.declared.service.Run.{Run}
+use Rattle.capn_serve.specs.Finish.{IsWholeText, last_result, last_text}
 use Rattle.capn_serve.specs.Fold.{AreServed, EndsRefused, EndsUnframed, Fold, IsFolded, Part, end_of, frames_of}
 use Rattle.capn_serve.specs.Fold.{texts_of}
 use Rattle.capn_serve.specs.FormRun.{AreMessages, most_stream}
 use Rattle.capn_serve.specs.StreamRun.{behind, has_more, taken_of}
+use Rattle.capn_serve.specs.WhatCame.{Came}
 use Rattle.capn_serve.proofs.shared.OneServing.{one_front}
 use Rattle.capn_archive.specs.ArchiveRun as archives
 use Rattle.capn_archive.specs.FilterRun as filters
 use Rattle.capn_archive.specs.FilterMessages.{Passes, serves}
-use Rattle.capn_archive.specs.Finish.{Closes, IsWholeText, outcome_by}
+use Rattle.capn_archive.specs.Outcome.{outcome_after}
 use Rattle.capn_archive.specs.Laws.{AreLetThrough, FilteredIsListed, FiltersAccepted, IsLetThrough, listing}
 use Rattle.capn_archive.specs.Tasks as archive_tasks
 use Rattle.capn_archive.specs.Tasks.{IsRefusedBy, IsServedBy, IsSkippedBy}
@@ -38,6 +40,7 @@ use Rattle.capn_archive.specs.declared.filter_service.FilterService.{FilterServi
 use Rattle.capn_serve.specs.declared.skipped.SkippedSoFar.{SkippedSoFar}
 use Rattle.capn_archive.specs.declared.task.ArchiveOrder.{ArchiveOrder}
 use Rattle.capn_archive.proofs.OneFilter.{accepted_of, not_refused}
+use Rattle.capn_archive.proofs.OneWhole.{no_text}
 
 abbrev Ending : Type 0
 Ending = Result (Unit {0}) RunFault
@@ -143,16 +146,18 @@ module _ (order : FilterOrder) where
   of_messages forms.Packed input text r y other due = through_of due.stream text _ r y due.due
   of_messages forms.Bare input text r y other due = absurd (other refl)
 
-  of_closed : (messages text : List ℕ) (served : Ending) (y : Filtering) (r : Last)
-      → Closes f (filters.first_run order) filters.filter_finish messages served y text r → text ≡ messages
-  of_closed messages text (Ok u) y r (is, ends) = is ∙ append-nil messages
-  of_closed messages text (Err e) y r (is, ends) = is
+  of_closed : (messages text : List ℕ) (served : Ending) (y : Filtering) (came : Came)
+      → text ≡ messages ++ last_text filters.filter_finish served y came → text ≡ messages
+  of_closed messages text (Ok u) y came is = is ∙ append-nil messages
+  of_closed messages text (Err e) y came is =
+      is ∙ ap (λ (l : List ℕ). messages ++ l) (no_text filters.filter_finish (λ z at r b. refl) e y came)
+      ∙ append-nil messages
 
   of_whole : (input text : List ℕ) (r : Last) → order.form ≢ forms.Bare
       → IsWholeText f (filters.first_run order) filters.filter_finish order.form input text r
       → IsLetThrough order text
-  of_whole input text r other (messages, served, y, are, closes) =
-      subst (λ (t : List ℕ). IsLetThrough order t) (sym (of_closed messages text served y r closes))
+  of_whole input text r other (messages, served, y, came, are, tells, is, ends) =
+      subst (λ (t : List ℕ). IsLetThrough order t) (sym (of_closed messages text served y came is))
       (of_messages order.form input messages served y other are)
 
   -- ---- a run of `list` over frames that are let through
@@ -246,26 +251,24 @@ module _ (order : FilterOrder) where
       let last = done_of mid y ks qs rest r next.0 are more split.1.1 ends_so in
       (last.0, last.1 ∙ next.1)
 
-  closed : (messages lines : List ℕ) (served : Ending) (y : Listing) (s : Last) → IsDone (archives.first_run
-      (listing limits)) y served → Closes g (archives.first_run (listing limits))
-      (archives.archive_finish (listing limits)) messages served y lines s → s ≡ Ok tt
-  closed messages lines (Ok u) y s (ends, none) (is, last) =
-      last ∙ ap (λ (k : Option SkippedSoFar). outcome_by k y.at.index) none
-  closed messages lines (Err e) y s (ends, none) closes = absurd (cc)
+  closed : (served : Ending) (y : Listing) (s : Last) → IsDone (archives.first_run (listing limits)) y served
+      → s ≡ last_result archives.archive_finish served y → s ≡ Ok tt
+  closed (Ok u) y s (ends, none) last = last ∙ ap (λ (k : Option SkippedSoFar). outcome_after k y.at.index) none
+  closed (Err e) y s (ends, none) last = absurd (cc)
 
   listed_all : (text lines : List ℕ) (s : Last) (ks : List Part) → AreLetThrough order ks → text ≡ frames_of ks
       → length text ≤ most_stream
-      → IsWholeText g (archives.first_run (listing limits)) (archives.archive_finish (listing limits)) forms.Stream text
-      lines s → s ≡ Ok tt
-  listed_all text lines s ks are is short (messages, served, y, due, closes) =
+      → IsWholeText g (archives.first_run (listing limits)) archives.archive_finish forms.Stream text lines s
+      → s ≡ Ok tt
+  listed_all text lines s ks are is short (messages, served, y, came, due, tells, lined, last) =
       let x = archives.first_run (listing limits) in
       let all : taken_of most_stream text ≡ text = take_all most_stream text short in
       let no_more : has_more most_stream text ≡ false = le-ltb most_stream (length text) short in
       let ends = subst (λ (b : Bool). IsFolded g x (taken_of most_stream text) (behind b) messages served y) no_more
       due in
-      closed messages lines served y s
+      closed served y s
       (done_of x y ks ends.parts ends.rest served refl are ends.are.each (sym is ∙ sym all ∙ ends.are.is) ends.ends)
-      closes
+      last
 
 pub filters_accepted : FiltersAccepted
 filters_accepted order input text r other through = of_whole order input text r other through

@@ -1,9 +1,7 @@
 pub mod FramesAdded
 pub mod ArchiveServed
 pub mod LineParts
-pub mod Endings
-pub mod ToldAlone
-pub mod Finishes
+pub mod Faithful
 pub mod UniqServed
 pub mod OneArchive
 pub mod OneUniq

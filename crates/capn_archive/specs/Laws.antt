@@ -4,13 +4,13 @@ use Rattle.capn_words.specs.Message.{total}
 use Rattle.capn_walk.specs.Limits.{Bounds}
 use Rattle.capn_stream.specs.Frames.{Frames}
 use Rattle.capn_canon.specs.declared.form.Form.TheVariants as forms
+use Rattle.capn_serve.specs.Finish.{IsWholeText}
 use Rattle.capn_serve.specs.Fold.{Part, frames_of}
 use Rattle.capn_serve.specs.FormRun.{most_stream}
 use Rattle.capn_archive.specs.ArchiveRun as archives
 use Rattle.capn_archive.specs.UniqRun as uniqs
 use Rattle.capn_archive.specs.FilterMessages.{Passes}
 use Rattle.capn_archive.specs.FilterRun as filters
-use Rattle.capn_archive.specs.Finish.{IsWholeText}
 use Rattle.capn_archive.specs.declared.fault.ArchiveFault.{ArchiveFault}
 use Rattle.capn_archive.specs.declared.filter_order.FilterOrder.{FilterOrder}
 use Rattle.capn_archive.specs.declared.task.ArchiveOrder.{ArchiveOrder}
@@ -20,10 +20,9 @@ use Rattle.capn_archive.specs.declared.uniq_order.UniqOrder.{UniqOrder}
 -- The options and the input determine the text and the result of a run over an archive.
 abbrev pub OneArchive : Type 0
 OneArchive = (order : ArchiveOrder) (input t u : List ℕ) (r s : Result (Unit {0}) ArchiveFault)
-    → IsWholeText (archives.archive_fold order) (archives.first_run order) (archives.archive_finish order) order.form
-    input t r
-    → IsWholeText (archives.archive_fold order) (archives.first_run order) (archives.archive_finish order) order.form
-    input u s → (t ≡ u) × (r ≡ s)
+    → IsWholeText (archives.archive_fold order) (archives.first_run order) archives.archive_finish order.form input t r
+    → IsWholeText (archives.archive_fold order) (archives.first_run order) archives.archive_finish order.form input u s
+    → (t ≡ u) × (r ≡ s)
 
 -- The options and the input determine the text and the result of a run of `uniq`.
 abbrev pub OneUniq : Type 0
@@ -73,4 +72,4 @@ FilteredIsListed = (order : FilterOrder) (input text lines : List ℕ) (r s : Re
     → order.form ≢ forms.Bare
     → IsWholeText (filters.filter_fold order) (filters.first_run order) filters.filter_finish order.form input text r
     → IsWholeText (archives.archive_fold (listing order.limits)) (archives.first_run (listing order.limits))
-    (archives.archive_finish (listing order.limits)) forms.Stream text lines s → s ≡ Ok tt
+    archives.archive_finish forms.Stream text lines s → s ≡ Ok tt

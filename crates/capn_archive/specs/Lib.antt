@@ -5,7 +5,7 @@ pub mod Lines
 pub mod Digest
 pub mod Tally
 pub mod Tasks
-pub mod Finish
+pub mod Outcome
 pub mod ArchiveRun
 pub mod UniqMessages
 pub mod UniqRun

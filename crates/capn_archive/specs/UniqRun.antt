@@ -1,14 +1,17 @@
 -- A run of `uniq`: its fold, its first state and its end. (Our own.)
-use Rattle.std.specs.Prelude.{◌≡◌, ℕ, List, [], ◌++◌, codes, Bool, true, false, Option, None, Result, refl}
+use Rattle.std.specs.Prelude.{◌≡◌, ℕ, List, [], ◌++◌, codes, Bool, true, false, Option, Result, refl}
 use Rattle.std.specs.FinSet as set
 use Rattle.std.specs.Fmt.{decimal, digits}
-use Rattle.capn_archive.specs.declared.fault.ArchiveFault.{ArchiveFault}
+use Rattle.capn_serve.specs.declared.fault.RunFault.{RunFault}
+use Rattle.capn_serve.specs.declared.position.Position.{Position}
 use Rattle.capn_serve.specs.declared.service.Run.{Run}
-use Rattle.capn_archive.specs.declared.uniq_order.UniqOrder.{UniqOrder}
-use Rattle.capn_archive.specs.Finish.{Finish, Finished}
+use Rattle.capn_serve.specs.Finish.{Finish, Finished, finish_of, nothing_told}
 use Rattle.capn_serve.specs.Fold.{Fold, fold_of}
+use Rattle.capn_serve.specs.StreamRun as streams
+use Rattle.capn_archive.specs.declared.fault.ArchiveFault.{ArchiveFault}
+use Rattle.capn_archive.specs.declared.uniq_order.UniqOrder.{UniqOrder}
+use Rattle.capn_archive.specs.Outcome.{outcome_after, stopped_after}
 use Rattle.capn_archive.specs.UniqMessages.{UniqState, first_state, serves, refuses}
-use Rattle.capn_serve.specs.StreamRun.{start}
 
 -- The fold of a run of `uniq` with the options `order`.
 abbrev pub uniq_fold : UniqOrder → Fold (Run UniqState)
@@ -16,7 +19,7 @@ uniq_fold order = fold_of serves refuses order.limits.message_words
 
 -- The state of a run before its first message.
 abbrev pub first_run : UniqOrder → Run UniqState
-first_run order = record { service = first_state order; at = start }
+first_run order = streams.first_run (first_state order)
 
 -- The line that `uniq --count` writes, with the numbers `kept` and `served`.
 abbrev pub count_line : ℕ → ℕ → List ℕ
@@ -33,12 +36,20 @@ closing_by true kept served = count_line kept served
 closing_by false kept served = []
 
 -- The closing text for the state `s` of the service.
-abbrev pub closing : UniqState → List ℕ
-closing s = closing_by s.order.count (set.len s.digests) s.served
+abbrev pub closing : UniqState → Position → List ℕ
+closing s at = closing_by s.order.count (set.len s.digests) s.served
 
--- The end of a run after its last message: the closing text, and the count of the skipped messages.
-abbrev pub uniq_finish : Finish (Run UniqState)
-uniq_finish = record { closing = λ y. closing y.service; skipped = λ y. y.service.skipped; ended = λ y. None }
+-- The result of a run whose loop ended without a fault in the state `s`.
+abbrev pub outcome : UniqState → Position → Result (Unit {0}) ArchiveFault
+outcome s at = outcome_after s.skipped at.index
+
+-- The fault of a run after a `RunFault` in the state `s`.
+abbrev pub stops : UniqState → Position → RunFault → ArchiveFault
+stops s at fault = stopped_after s.skipped at.index fault
+
+-- The end of a run of `uniq`.
+abbrev pub uniq_finish : Finish (Run UniqState) (Unit {0}) ArchiveFault
+uniq_finish = finish_of closing nothing_told outcome stops
 
 -- The effect of a run with the options `order` that ends with the result `r`. `a` and `b` are the reader before and
 -- after the run, and `c` and `d` the writer.

@@ -1,3 +1,2 @@
 -- Definitions that are not used in the contract of any public function.
-pub mod Closing
 pub mod FilterVerdict

@@ -2,42 +2,63 @@
 
 ghost use Rattle.std.specs.Prelude.{◌≡◌, false};
 ghost use Rattle.capn_words.specs.Watched.{inner_of, has_failed};
-ghost use Rattle.capn_archive.specs.Finish as finish;
-ghost use Rattle.capn_archive.specs.FilterRun as spec;
 ghost use Rattle.capn_archive.specs.FilterRun.{Filtered};
 
-use crate::archive_run::serve_messages;
-use crate::end_of_archive::{fault_after, outcome};
 use crate::fault::ArchiveFault;
 use crate::filter_order::FilterOrder;
 use crate::filter_service::FilterService;
-use capn_serve::{Run, RunFault};
+use capn_canon::Refusal;
+use capn_serve::{Begun, Finish, Position, RunFault, run_messages, skip_fault_after, skip_outcome};
 use capn_words::Watched;
 use std::alloc::Allocator;
 use std::io::{Read, Write};
 
-fn first_run(order: FilterOrder) -> Run<FilterService>
-    ensures { result ≡ spec.first_run order }
-{
-    Run::new(FilterService::new(order))
-}
+impl Finish for FilterService {
+    ghost use Rattle.capn_archive.specs.FilterRun as spec;
+    ghost use Rattle.capn_serve.specs.Finish.{no_closing, nothing_told};
 
-/// Returns the outcome of `run`, whose loop ended without a fault. Either a message that is not canonical ended the
-/// loop, or all of the input was read.
-fn outcome_of(run: &Run<FilterService>) -> Result<(), ArchiveFault>
-    ensures { result ≡ finish.outcome_unless run.now.service.ended run.now.service.skipped run.now.at.index }
-{
-    match run.service.ended {
-        Some(at) => Err(ArchiveFault::NotCanonical(at)),
-        None => outcome(run.service.skipped, run.at.index),
+    type Found = ();
+
+    type Fault = ArchiveFault;
+
+    ghost closing = { no_closing };
+
+    ghost told = { nothing_told };
+
+    ghost outcome = { spec.outcome };
+
+    ghost stops = { spec.stops };
+
+    fn write_closing<W: Write, A: Allocator + Copy>(
+        &self,
+        _alloc: A,
+        _at: Position,
+        _writer: &mut Watched<W>,
+    ) -> Result<(), RunFault> {
+        Ok(())
     }
-}
 
-/// Returns the fault with which `run` ends after `fault` stopped the loop over the messages.
-fn fault_of(run: &Run<FilterService>, fault: RunFault) -> ArchiveFault
-    ensures { result ≡ finish.fault_after run.now.service.skipped run.now.at.index fault }
-{
-    fault_after(run.service.skipped, run.at.index, fault)
+    fn write_told<W: Write, A: Allocator + Copy>(
+        &self,
+        _alloc: A,
+        _at: Position,
+        _refusal: &Refusal,
+        _begun: &Begun<A>,
+        _writer: &mut Watched<W>,
+    ) -> Result<(), RunFault> {
+        Ok(())
+    }
+
+    fn outcome(&self, at: Position) -> Result<(), ArchiveFault> {
+        match self.ended {
+            Some(at) => Err(ArchiveFault::NotCanonical(at)),
+            None => Ok(skip_outcome(self.skipped, at.index)?),
+        }
+    }
+
+    fn stops(&self, at: Position, stopped: RunFault) -> ArchiveFault {
+        ArchiveFault::Ended(skip_fault_after(self.skipped, at.index, stopped))
+    }
 }
 
 /// Reads the messages of an archive from `reader`, and writes the frame of each accepted one to `writer`, unchanged.
@@ -45,14 +66,16 @@ fn fault_of(run: &Run<FilterService>, fault: RunFault) -> ArchiveFault
 /// `order.canonical` is true, only canonical messages are written. A canonical message has one segment, which holds the
 /// canonical bytes of its value.
 ///
-/// Input is read as [`serve_form`] reads it. Each frame let through is written before the next chunk is read. The run
+/// Input is read as [`run_messages`] reads it. Each frame let through is written before the next chunk is read. The run
 /// ends with `Ok`, with `Skipped` if all input was read and messages were skipped, or with the first fault. A message
 /// that is not let through is skipped if `order.keep_going` is true, and otherwise ends the run. The fault is then
 /// `NotCanonical` if the message is accepted, and else `Refused`, with the position. A refused frame or group ends the
 /// run with `Refused` and the position, or with `RefusedAfterSkipped` if messages were skipped before that position.
 /// The other faults are `InputTooLong`, `Io` if and only if the reader or the writer failed, and `Memory` if an
-/// allocation was refused. If a message ends the run, or the input is refused or too long, nothing more is read, and
-/// only the frames let through before are written. A run holds in memory only what the loop over messages holds.
+/// allocation was refused. Except for `NotCanonical`, each of these faults is a variant of the
+/// [`SkipFault`](capn_serve::SkipFault) in `Ended`, or of the [`RunFault`] in that `SkipFault`. If a message ends the
+/// run, or the input is refused or too long, nothing more is read, and only the frames let through before are written.
+/// A run holds in memory only what the loop over messages holds.
 pub fn run_filter<R: Read, W: Write, A: Allocator + Copy>(
     alloc: A,
     order: FilterOrder,
@@ -66,9 +89,6 @@ pub fn run_filter<R: Read, W: Write, A: Allocator + Copy>(
         (has_failed writer.new) result }
 {
     let (form, limits) = (order.form, order.limits);
-    let mut run = first_run(order);
-    match serve_messages(alloc, form, limits, &mut run, reader, writer) {
-        Ok(()) => outcome_of(&run),
-        Err(stopped) => Err(fault_of(&run, stopped)),
-    }
+    let service = FilterService::new(order);
+    run_messages(alloc, form, limits, service, reader, writer)
 }

@@ -4,15 +4,14 @@
 //! [`run_archive`] carries out an [`ArchiveOrder`] with an [`ArchiveService`], which writes the text of the order's
 //! [`Task`] for each message and at the end. [`run_uniq`] carries out a [`UniqOrder`] with a [`UniqService`], which
 //! leaves out each message whose canonical bytes equal an earlier message's. [`run_filter`] carries out a
-//! [`FilterOrder`] with a [`FilterService`], which lets accepted messages through. The loops over the messages are in
-//! [`capn_serve`].
+//! [`FilterOrder`] with a [`FilterService`], which lets accepted messages through. [`capn_serve`] has the function
+//! [`run_messages`](capn_serve::run_messages), which runs each of these services.
 #![tactic(auto)]
 
 mod archive_run;
 mod archive_service;
 mod canonical_frame;
 mod digest;
-mod end_of_archive;
 mod fault;
 mod filter_order;
 mod filter_run;
@@ -31,9 +30,7 @@ mod uniq_service;
 
 pub use archive_run::run_archive;
 pub use archive_service::ArchiveService;
-pub use capn_serve::{
-    Position, Run, RunFault, ServeFault, Service, Skipped, run_bare, run_packed, run_stream,
-};
+pub use capn_serve::{Position, RunFault, ServeFault, Service, SkipFault, Skipped};
 pub use fault::ArchiveFault;
 pub use filter_order::FilterOrder;
 pub use filter_run::run_filter;

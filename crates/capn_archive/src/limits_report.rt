@@ -1,6 +1,6 @@
 //! The text of the command `limits`: the limits that the messages of an archive need.
 
-ghost use Rattle.std.specs.Prelude.{◌≡◌, ◌≢◌, ◌<◌, ◌^◌, [], IfOk, IfErr, string_bytes};
+ghost use Rattle.std.specs.Prelude.{◌≡◌, ◌<◌, ◌^◌, IfOk, IfErr, string_bytes};
 ghost use Rattle.capn_archive.specs.Lines as spec;
 ghost use Rattle.capn_serve.specs.declared.fault.RunFault.TheVariants as faults;
 
@@ -117,7 +117,7 @@ impl<'a> fmt::Display for Advice<'a> {
 /// Returns the five lines that `limits` writes for `needs`.
 pub(crate) fn limits_text<A: Allocator>(alloc: A, needs: &Needs) -> Result<String<A>, RunFault>
     ensures found { IfOk result (λ text. string_bytes text ≡ spec.limits_text needs.now) }
-    ensures only { IfErr result (λ e. (e ≡ faults.Memory) × (spec.limits_text needs.now ≢ [])) }
+    ensures only { IfErr result (λ e. e ≡ faults.Memory) }
 {
     let advice = Advice(needs);
     Ok(format!(in alloc; "{needs}\n{advice}\n")?)

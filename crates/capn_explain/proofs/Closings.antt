@@ -1,4 +1,4 @@
--- Lemmas for `explain_messages` and `write_refusal`: the text that follows the loop over the messages.
+-- Lemmas for `write_refusal`: the text that follows the loop over the messages. (Also for `Faithful`.)
 use Rattle.std.proofs.Common.{◌≡◌, ◌≢◌, ◌↔◌, ◌⊎◌, inl, inr, ℕ, List, [], ◌∷◌, Bool, true, false, Option, None, Some}
 use Rattle.std.proofs.Common.{OnOk, IsErrOf, IsErrAnd, IsOkUnless, length, arith, Result, Ok, Err, refl, ap, sym, subst}
 use Rattle.std.proofs.Common.{◌∙◌}
@@ -9,11 +9,11 @@ use Rattle.capn_canon.specs.declared.refusal.Refusal.{Refusal}
 use Rattle.capn_serve.specs.declared.fault.RunFault.{RunFault}
 use Rattle.capn_serve.specs.declared.fault.RunFault.TheVariants as faults
 use Rattle.capn_serve.specs.declared.position.Position.{Position}
+use Rattle.capn_serve.specs.Finish.{PutsText}
 use Rattle.capn_serve.specs.WhatCame.{Came}
 use Rattle.capn_explain.specs.ExplainRun.{ending_by, rest_ending, told_at}
 use Rattle.capn_explain.specs.FaultLines.{fault_lines}
 use Rattle.capn_explain.specs.Reports.{First, apart}
-use Rattle.capn_explain.specs.inner.Closing.{IsFineIfTold, PutsClosing}
 use Rattle.capn_explain.specs.declared.order.Order.{Order}
 use Rattle.capn_explain.specs.declared.order.Wanted.{Wanted}
 use Rattle.capn_explain.specs.declared.order.Wanted.TheVariants as wants
@@ -37,21 +37,21 @@ no_failure : (failed : Bool) → ((ended (Ok tt) ≡ Err faults.Io) ↔ (failed 
 no_failure false io = refl
 no_failure true (to, from) = let k = from refl in absurd (cc)
 
--- Case: if the text was written, or the writer failed, `PutsClosing` holds.
-pub closing_wrote : (text bytes : List ℕ) (old new : Option (List ℕ)) (before after : Bool) (r : Ending)
-    → before ≡ false → text ≢ [] → bytes ≡ text → OnOk r (Appends old new bytes) → HasBegun old new bytes
-    → (IsErrOf r faults.Io ↔ (after ≡ true)) → IsOkUnless r faults.Io → PutsClosing text old new before after r
-closing_wrote text bytes old new before after (Ok u) fine some same ok begun io only =
-    (subst (Appends old new) same ok, no_failure after io ∙ sym fine)
-closing_wrote text bytes old new before after (Err e) fine some same ok begun io only =
+-- Case: if the text was written, or the writer failed, `PutsText` holds.
+pub closing_wrote : (text bytes : List ℕ) (old new : Option (List ℕ)) (after : Bool) (r : Ending) → text ≢ []
+    → bytes ≡ text → OnOk r (Appends old new bytes) → HasBegun old new bytes
+    → (IsErrOf r faults.Io ↔ (after ≡ true)) → IsOkUnless r faults.Io → PutsText text old new after r
+closing_wrote text bytes old new after (Ok u) some same ok begun io only =
+    (subst (Appends old new) same ok, no_failure after io)
+closing_wrote text bytes old new after (Err e) some same ok begun io only =
     (some, inr (only, subst (HasBegun old new) same begun, io.0 (ap stopped only)))
 
--- Case: if an allocation was refused for the text, `PutsClosing` holds.
-pub closing_refused : (text : List ℕ) (old new : Option (List ℕ)) (before after : Bool) (r : Ending) (fault : RunFault)
-    → IsErrAnd r (λ e. e ≡ fault) → fault ≡ faults.Memory → new ≡ old → after ≡ before → text ≢ []
-    → PutsClosing text old new before after r
-closing_refused text old new before after (Ok u) fault told is same fine some = absurd told
-closing_refused text old new before after (Err e) fault told is same fine some = (some, inl (told ∙ is, same, fine))
+-- Case: if an allocation was refused for the text, `PutsText` holds.
+pub closing_refused : (text : List ℕ) (old new : Option (List ℕ)) (after : Bool) (r : Ending) (fault : RunFault)
+    → IsErrAnd r (λ e. e ≡ fault) → fault ≡ faults.Memory → new ≡ old → after ≡ false → text ≢ []
+    → PutsText text old new after r
+closing_refused text old new after (Ok u) fault told is same fine some = absurd told
+closing_refused text old new after (Err e) fault told is same fine some = (some, inl (told ∙ is, same, fine))
 
 fault_some : (limits : Bounds) (at : Position) (r : Refusal) (rest group : List ℕ)
     → fault_lines limits at r rest group ≢ []
@@ -85,34 +85,3 @@ ending_not_io outcomes.Nothing w first is = rest_not_io w first is
 ending_not_io (outcomes.Skipped s) w first is = absurd (cc)
 ending_not_io (outcomes.Refused at s) w first is = absurd (cc)
 ending_not_io outcomes.Accepted w first is = absurd (cc)
-
-pub io_is_not_memory : ended (Err faults.Io) ≡ Err faults.Memory → ⊥
-io_is_not_memory is = absurd (cc)
-
-pub not_true : (failed : Bool) → (failed ≡ true → ⊥) → failed ≡ false
-not_true false none = refl
-not_true true none = absurd (none refl)
-
--- If the result of a run is `Refused`, neither the reader nor the writer has failed.
-pub refused_fine : (at : Position) (r : Refusal) (reader writer : Bool)
-    → ((stopped (faults.Refused at r) ≡ Err faults.Io) ↔ ((reader ≡ true) ⊎ (writer ≡ true)))
-    → (reader ≡ true → ⊥) × (writer ≡ false)
-refused_fine at r reader writer (to, from) = (
-  λ h. let k = from (inl h) in absurd (cc),
-  not_true writer (λ h. let k = from (inr h) in absurd (cc)),
-)
-
-pub done_fine : (reader writer : Bool)
-    → ((ended (Ok tt) ≡ Err faults.Io) ↔ ((reader ≡ true) ⊎ (writer ≡ true)))
-    → (reader ≡ true → ⊥) × (writer ≡ false)
-done_fine reader writer (to, from) = (
-  λ h. let k = from (inl h) in absurd (cc),
-  not_true writer (λ h. let k = from (inr h) in absurd (cc)),
-)
-
-pub fine_if_told : (e : RunFault) (reader writer : Bool)
-    → ((stopped e ≡ Err faults.Io) ↔ ((reader ≡ true) ⊎ (writer ≡ true))) → IsFineIfTold e writer
-fine_if_told (faults.Refused at r) reader writer io = (refused_fine at r reader writer io).1
-fine_if_told faults.Memory reader writer io = tt
-fine_if_told faults.Io reader writer io = tt
-fine_if_told faults.InputTooLong reader writer io = tt

@@ -1,9 +1,7 @@
 pub mod Accounts
 pub mod Closings
-pub mod Finishes
 pub mod Reporters
 pub mod Zeros
 pub mod AtLeast
-pub mod RefusedAnswers
+pub mod Faithful
 pub mod NothingWritten
-pub mod Ended

@@ -1,4 +1,4 @@
--- Lemmas for `explain_messages`: a run that keeps its lines until the end has written nothing if it ends with `Memory`.
+-- Lemmas for `run_explain`: a run that keeps its lines until the end has written nothing if it ends with `Memory`.
 use Rattle.std.proofs.Common.{◌≡◌, inl, inr, ℕ, List, [], ◌∷◌, ◌++◌, take, Bool, true, false, Option, None, Some}
 use Rattle.std.proofs.Common.{Ok, Err, refl, ap, sym, subst, ◌∙◌}
 use Rattle.std.proofs.Math.Seq.{take-nil}
@@ -12,17 +12,23 @@ use Rattle.capn_serve.specs.declared.position.Position.{Position}
 use Rattle.capn_serve.specs.declared.service.Run.{Run}
 use Rattle.capn_serve.specs.declared.fault.RunFault.{RunFault}
 use Rattle.capn_serve.specs.declared.fault.RunFault.TheVariants as faults
+use Rattle.capn_serve.specs.Finish.{Ends, PutsLast, PutsText, answer, last_text}
 use Rattle.capn_serve.specs.Fold.{AreServed, Part, texts_of}
 use Rattle.capn_serve.specs.FormRun.{HasWritten}
-use Rattle.capn_explain.specs.ExplainRun.{closing_by, ending_by, explain_fold, rest_ending, rest_text}
-use Rattle.capn_explain.specs.Reports.{First, Reporting, ServesBy, TellsAcceptedBy, after_refused, refused_text}
+use Rattle.capn_serve.specs.WhatCame.{Came}
+use Rattle.capn_serve.proofs.shared.Finishes.{finished}
+use Rattle.capn_explain.specs.ExplainRun.{Explained, closing, closing_by, ending_by, explain_finish, explain_fold}
+use Rattle.capn_explain.specs.ExplainRun.{first_run, rest_ending, rest_text, told}
+use Rattle.capn_explain.specs.Reports.{First, Reporting, ServesBy, TellsAcceptedBy, after_refused, order_of}
+use Rattle.capn_explain.specs.Reports.{refused_text, wanted_of}
+use Rattle.capn_explain.specs.declared.explain.Explain.{Explain}
 use Rattle.capn_explain.specs.declared.order.Order.{Order}
 use Rattle.capn_explain.specs.declared.order.Wanted.{Wanted}
 use Rattle.capn_explain.specs.declared.order.Wanted.TheVariants as wants
 use Rattle.capn_explain.specs.declared.outcome.Outcome.{Outcome}
 use Rattle.capn_explain.specs.declared.outcome.Outcome.TheVariants as outcomes
-use Rattle.capn_explain.specs.inner.Closing.{PutsClosing, PutsFault}
-use Rattle.capn_explain.proofs.Closings.{stopped}
+use Rattle.capn_explain.proofs.Closings.{Ending, stopped}
+use Rattle.capn_explain.proofs.Faithful.{explain_faithful}
 
 -- ---- a message writes nothing
 
@@ -102,42 +108,54 @@ closing_none (outcomes.Skipped s) lines w first count is = refl
 closing_none (outcomes.Refused at s) lines w first count is = absurd (cc)
 closing_none outcomes.Accepted lines w first count is = absurd (cc)
 
-pub nothing_then : (c m d : Option (List ℕ)) → Appends c m [] → d ≡ m → Appends c d []
+nothing_then : (c m d : Option (List ℕ)) → Appends c m [] → d ≡ m → Appends c d []
 nothing_then c m d wrote same = subst (λ (n : Option (List ℕ)). Appends c n []) (sym same) wrote
 
--- Case: if all messages were served and the ending is `Memory`, the closing text is empty, so nothing was written.
-pub closed_none : (run : Run Reporting) (c m d : Option (List ℕ)) (before after : Bool) → Appends c m []
-    → PutsClosing (closing_by run.service.outcome run.service.lines run.service.order.wanted run.service.first
-    run.at.index) m d before after (Ok tt)
-    → ending_by run.service.outcome run.service.order.wanted run.service.first ≡ Err faults.Memory → Appends c d []
-closed_none run c m d before after wrote (closed, fine) is =
-    let s = run.service in
-    Appends-trans c m d [] [] wrote
-    (subst (Appends m d) (closing_none s.outcome s.lines s.order.wanted s.first run.at.index is) closed)
-
 -- Case: if an allocation was refused for `text`, nothing was written.
-pub unclosed_none : (text : List ℕ) (c m d : Option (List ℕ)) (before after : Bool) (fault : RunFault) → Appends c m []
-    → PutsClosing text m d before after (Err fault) → stopped fault ≡ Err faults.Memory → Appends c d []
-unclosed_none text c m d before after fault wrote (some, inl (memory, same, fine)) is = nothing_then c m d wrote same
-unclosed_none text c m d before after fault wrote (some, inr (io, begun, failed)) is =
+unclosed_none : (text : List ℕ) (c m d : Option (List ℕ)) (after : Bool) (fault : RunFault) → Appends c m []
+    → PutsText text m d after (stopped fault) → stopped fault ≡ Err faults.Memory → Appends c d []
+unclosed_none text c m d after fault wrote (some, inl (memory, same, fine)) is = nothing_then c m d wrote same
+unclosed_none text c m d after fault wrote (some, inr (io, begun, failed)) is =
     let k : stopped faults.Io ≡ Err faults.Memory = sym (ap stopped io) ∙ is in
     absurd (cc)
 
--- Case: if the fault `Memory` ended the loop over the messages, nothing was written.
-pub told_none : (told : Position → Refusal → List ℕ) (c m d : Option (List ℕ)) (before after : Bool) (fault : RunFault)
-    → Appends c m [] → PutsFault told fault m d before after (Ok tt) → stopped fault ≡ Err faults.Memory
-    → Appends c d []
-told_none told c m d before after (faults.Refused at r) wrote put is = absurd (cc)
-told_none told c m d before after faults.Memory wrote (done, same, fine) is = nothing_then c m d wrote same
-told_none told c m d before after faults.Io wrote put is = absurd (cc)
-told_none told c m d before after faults.InputTooLong wrote put is = absurd (cc)
+module _ (c m d : Option (List ℕ)) (before after : Bool) (y : Run Reporting) (came : Came) (quiet : Appends c m [])
+  where
+    none_by : (served put : Ending) → PutsLast served (last_text explain_finish served y came) m d before after put
+        → answer explain_finish served put y ≡ Err faults.Memory → Appends c d []
+    none_by (Ok u) (Ok v) (closed, fine) is =
+        let s = y.service in
+        Appends-trans c m d [] [] quiet
+        (subst (Appends m d) (closing_none s.outcome s.lines s.order.wanted s.first y.at.index is) closed)
+    none_by (Ok u) (Err fault) put is = unclosed_none (closing y.service y.at) c m d after fault quiet put is
+    none_by (Err (faults.Refused at r)) (Ok v) put is = absurd (cc)
+    none_by (Err (faults.Refused at r)) (Err fault) put is =
+        unclosed_none (told y.service at r came) c m d after fault quiet put is
+    none_by (Err faults.Memory) put (done, same, fine) is = nothing_then c m d quiet same
+    none_by (Err faults.Io) put (done, same, fine) is = nothing_then c m d quiet same
+    none_by (Err faults.InputTooLong) put (done, same, fine) is = nothing_then c m d quiet same
 
--- Case: if `ended` ended the loop, and an allocation was refused for the text of this fault, nothing was written.
-pub untold_none : (told : Position → Refusal → List ℕ) (c m d : Option (List ℕ)) (before after : Bool)
-    (ended fault : RunFault) → Appends c m [] → PutsFault told ended m d before after (Err fault)
-    → stopped fault ≡ Err faults.Memory → Appends c d []
-untold_none told c m d before after (faults.Refused at r) fault wrote put is =
-    unclosed_none (told at r) c m d before after fault wrote put is
-untold_none told c m d before after faults.Memory fault wrote (done, same, fine) is = absurd (cc)
-untold_none told c m d before after faults.Io fault wrote (done, same, fine) is = absurd (cc)
-untold_none told c m d before after faults.InputTooLong fault wrote (done, same, fine) is = absurd (cc)
+-- A run that writes no text for a refused message during the loop has written nothing if it ends with `Memory`.
+pub nothing_written : (order : Order) → KeepsLines order.wanted → (a b c d : Option (List ℕ)) (reader writer : Bool)
+    (r : Ending) → Ends (explain_fold order) (first_run order) explain_finish order.form a b c d reader writer r
+    → r ≡ Err faults.Memory → Appends c d []
+nothing_written order kept a b c d reader writer r ends is =
+    let quiet = served_none order (first_run order) order.form ends.loop.begun.bytes c ends.middle kept
+    ends.loop.begun.written in
+    none_by c ends.middle d ends.failed writer ends.last ends.came quiet ends.served ends.put ends.puts
+    (sym ends.is ∙ is)
+
+kept_of : (number : Option ℕ) → KeepsLines (wanted_of number)
+kept_of (Some number) lines = refl
+kept_of None lines = refl
+
+pub explained : (explain : Explain) (a b c d : Option (List ℕ)) (reader writer : Bool) (r : Ending)
+    → Ends (explain_fold (order_of explain)) (first_run (order_of explain)) explain_finish explain.form a b c d reader
+    writer r → Explained explain a b c d reader writer r
+explained explain a b c d reader writer r ends =
+    let order = order_of explain in
+    record {
+      run = finished (explain_fold order) (first_run order) explain_finish (explain_faithful order) explain.form a b c d
+          reader writer r ends;
+      nothing = λ is. nothing_written order (kept_of explain.number) a b c d reader writer r ends is;
+    }

@@ -8,14 +8,14 @@ use Rattle.capn_serve.specs.declared.fault.RunFault.{RunFault}
 use Rattle.capn_serve.specs.declared.fault.RunFault.TheVariants as faults
 use Rattle.capn_serve.specs.declared.position.Position.{Position}
 use Rattle.capn_serve.specs.declared.service.Run.{Run}
+use Rattle.capn_serve.specs.Finish.{Finish, Finished, finish_of}
 use Rattle.capn_serve.specs.Fold.{Fold, fold_until}
-use Rattle.capn_serve.specs.StreamRun.{start}
+use Rattle.capn_serve.specs.StreamRun as runs
 use Rattle.capn_serve.specs.WhatCame.{Came}
 use Rattle.capn_diagnostics.specs.MessageTexts.{count_text}
 use Rattle.capn_diagnostics.specs.declared.count_text.CountText.{CountText}
 use Rattle.capn_diagnostics.specs.declared.count_text.CountText.TheVariants as counts
 use Rattle.capn_explain.specs.FaultLines.{fault_lines}
-use Rattle.capn_explain.specs.Finish.{Finish, Finished}
 use Rattle.capn_explain.specs.Reports.{First, Reporting, apart, done, first_reporting, order_of, refuses, serves}
 use Rattle.capn_explain.specs.declared.explain.Explain.{Explain}
 use Rattle.capn_explain.specs.declared.order.Order.{Order}
@@ -30,10 +30,7 @@ explain_fold order = fold_until serves refuses done order.limits.message_words
 
 -- The state of a run with the options `order`, before its first message.
 abbrev pub first_run : Order → Run Reporting
-first_run order = record {
-  service = first_reporting order;
-  at = start;
-}
+first_run order = runs.first_run (first_reporting order)
 
 -- The line that shows `count`, a number of messages.
 abbrev pub count_line : CountText → List ℕ
@@ -55,10 +52,9 @@ closing_by (outcomes.Skipped skipped) lines wanted first count = []
 closing_by (outcomes.Refused at stopped) lines wanted first count = lines
 closing_by outcomes.Accepted lines wanted first count = lines
 
--- The closing text that `closing_by` gives for the state `run` after the last message.
-abbrev pub closing : Run Reporting → List ℕ
-closing run =
-    closing_by run.service.outcome run.service.lines run.service.order.wanted run.service.first run.at.index
+-- The closing text that `closing_by` gives for the state `s`, after the message before the position `at`.
+abbrev pub closing : Reporting → Position → List ℕ
+closing s at = closing_by s.outcome s.lines s.order.wanted s.first at.index
 
 -- The ending of a run that explained no message in the loop. It is `Memory` if no number is given and `first` is an
 -- error, and otherwise `Ok`.
@@ -76,29 +72,33 @@ ending_by (outcomes.Skipped skipped) wanted first = Ok tt
 ending_by (outcomes.Refused at stopped) wanted first = Err (faults.Refused at (refusals.Walk stopped))
 ending_by outcomes.Accepted wanted first = Ok tt
 
--- The ending that `ending_by` gives for the state `run` after the last message.
-abbrev pub ending : Run Reporting → Result (Unit {0}) RunFault
-ending run = ending_by run.service.outcome run.service.order.wanted run.service.first
+-- The ending that `ending_by` gives for the state `s` after the last message.
+abbrev pub ending : Reporting → Position → Result (Unit {0}) RunFault
+ending s at = ending_by s.outcome s.order.wanted s.first
 
 -- The lines of the message at `at`, which is refused with `refusal` before its walk, and an empty line if every refused
 -- message is explained. `came` has the bytes of this message that were read and kept.
 abbrev pub told_at : Order → Position → Refusal → Came → List ℕ
 told_at order at refusal came = apart order.wanted (fault_lines order.limits at refusal came.rest came.group)
 
--- The end of a run with the options `order`: its closing text, its ending, and the lines of a refused message.
-abbrev pub explain_finish : Order → Finish (Run Reporting)
-explain_finish order = record {
-  closing = λ y. closing y;
-  ending = λ y. ending y;
-  told = λ at r came. told_at order at r came;
-}
+-- The lines that `told_at` gives in the state `s`.
+abbrev pub told : Reporting → Position → Refusal → Came → List ℕ
+told s at refusal came = told_at s.order at refusal came
+
+-- The fault of a run that explains one message, after a `RunFault`.
+abbrev pub stops : Reporting → Position → RunFault → RunFault
+stops s at fault = fault
+
+-- The end of a run that explains one message.
+abbrev pub explain_finish : Finish (Run Reporting) (Unit {0}) RunFault
+explain_finish = finish_of closing told ending stops
 
 -- A run with the options `explain` has the result `r`. Before and after the run, the bytes left in the reader are `a`
 -- and `b`, and the contents of the writer are `c` and `d`. If `r` is `Memory`, nothing was written.
 pub record Explained (explain : Explain) (a b c d : Option (List ℕ)) (reader_failed writer_failed : Bool)
     (r : Result (Unit {0}) RunFault) : Type 0 where
-  pub run : Finished (explain_fold (order_of explain)) (first_run (order_of explain))
-      (explain_finish (order_of explain)) explain.form a b c d reader_failed writer_failed r
+  pub run : Finished (explain_fold (order_of explain)) (first_run (order_of explain)) explain_finish explain.form a b c
+      d reader_failed writer_failed r
   pub nothing : r ≡ Err faults.Memory → Appends c d []
 
 -- Examples of `rest_text` and `rest_ending`.

@@ -3,7 +3,5 @@ pub mod Accounts
 pub mod Reports
 pub mod WhatCame
 pub mod FaultLines
-pub mod Finish
 pub mod ExplainRun
 pub mod RefusedRun
-pub mod FaultText

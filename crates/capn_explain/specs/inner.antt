@@ -1,4 +1,3 @@
 -- Definitions that are not used in the contract of any public function.
 pub mod Closing
-pub mod Ends
 pub mod Figures

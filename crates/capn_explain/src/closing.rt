@@ -2,11 +2,12 @@
 
 ghost use Rattle.std.specs.Prelude.{◌≡◌, ◌++◌, codes, false, IfOk, IfErr, Some, string_bytes};
 ghost use Rattle.capn_words.specs.Watched.{inner_of, has_failed};
+ghost use Rattle.capn_serve.specs.Finish.{PutsText};
 ghost use Rattle.capn_serve.specs.declared.fault.RunFault.TheVariants as faults;
 ghost use Rattle.capn_explain.specs.Accounts.{account_text};
 ghost use Rattle.capn_explain.specs.ExplainRun as spec;
 ghost use Rattle.capn_explain.specs.Reports.{lines_first};
-ghost use Rattle.capn_explain.specs.inner.Closing.{AreLines, IsFineIfTold, PutsClosing, PutsFault};
+ghost use Rattle.capn_explain.specs.inner.Closing.{AreLines};
 
 use crate::account::Account;
 use crate::fault_lines::fault_lines;
@@ -15,7 +16,7 @@ use crate::outcome::Outcome;
 use crate::reporter::Reporter;
 use capn_canon::Refusal;
 use capn_diagnostics::CountText;
-use capn_serve::{Begun, Position, Run, RunFault};
+use capn_serve::{Begun, Position, RunFault};
 use capn_words::{Memory, Watched};
 use std::alloc::Allocator;
 use std::io::Write;
@@ -39,12 +40,11 @@ fn rest_ending<A: Allocator>(
     }
 }
 
-/// Returns the result of `run`, whose loop ended without a fault.
-pub(crate) fn ending_of<A: Allocator + Copy>(run: &Run<Reporter<A>>) -> Result<(), RunFault>
-    ensures { result ≡ spec.ending run.now }
+/// Returns the ending of a run whose loop ended without a fault, with the last state `reporter`.
+pub(crate) fn ending_of<A: Allocator + Copy>(reporter: &Reporter<A>) -> Result<(), RunFault>
+    ensures { result ≡ spec.ending_by reporter.now.outcome reporter.now.order.wanted reporter.now.first }
 {
-    let reporter = &run.service;
-    match reporter.outcome() {
+    match reporter.explained() {
         Outcome::Refused(at, stopped) => Err(RunFault::Refused(at, Refusal::Walk(stopped))),
         Outcome::Nothing => rest_ending(reporter.order().wanted, reporter.first()),
         Outcome::Accepted | Outcome::Skipped(_) => Ok(()),
@@ -95,8 +95,8 @@ fn rest_lines<B: Allocator, A: Allocator>(
 /// Writes `lines`, which explain a message. If `lines` is empty, nothing is written.
 fn write_kept<W: Write>(lines: &[u8], writer: &mut Watched<W>) -> Result<(), RunFault>
     requires { has_failed writer.old ≡ false }
-    ensures { PutsClosing lines.now (W.contents (inner_of writer.old)) (W.contents (inner_of writer.new))
-        (has_failed writer.old) (has_failed writer.new) result }
+    ensures { PutsText lines.now (W.contents (inner_of writer.old)) (W.contents (inner_of writer.new))
+        (has_failed writer.new) result }
 {
     if lines.is_empty() {
         return Ok(());
@@ -113,8 +113,8 @@ fn write_rest<W: Write, B: Allocator, A: Allocator>(
     writer: &mut Watched<W>,
 ) -> Result<(), RunFault>
     requires { has_failed writer.old ≡ false }
-    ensures { PutsClosing (spec.rest_text wanted (lines_first first.now) count) (W.contents (inner_of writer.old))
-        (W.contents (inner_of writer.new)) (has_failed writer.old) (has_failed writer.new) result }
+    ensures { PutsText (spec.rest_text wanted (lines_first first.now) count) (W.contents (inner_of writer.old))
+        (W.contents (inner_of writer.new)) (has_failed writer.new) result }
 {
     match rest_lines(alloc, wanted, first, count)? {
         Some(lines) => Ok(writer.write_all(lines.as_bytes())?),
@@ -122,23 +122,24 @@ fn write_rest<W: Write, B: Allocator, A: Allocator>(
     }
 }
 
-/// Writes the closing text of `run` to `writer`.
+/// Writes the closing text of a run to `writer`. `reporter` is the last state, and `at` is the position after the last
+/// message.
 pub(crate) fn write_closing<W: Write, B: Allocator + Copy, A: Allocator + Copy>(
     alloc: A,
-    run: &Run<Reporter<B>>,
+    reporter: &Reporter<B>,
+    at: Position,
     writer: &mut Watched<W>,
 ) -> Result<(), RunFault>
     requires { has_failed writer.old ≡ false }
-    ensures { PutsClosing (spec.closing run.now) (W.contents (inner_of writer.old))
-        (W.contents (inner_of writer.new)) (has_failed writer.old) (has_failed writer.new) result }
+    ensures { PutsText (spec.closing reporter.now at) (W.contents (inner_of writer.old))
+        (W.contents (inner_of writer.new)) (has_failed writer.new) result }
 {
-    let reporter = &run.service;
-    match reporter.outcome() {
+    match reporter.explained() {
         Outcome::Refused(_, _) | Outcome::Accepted => write_kept(reporter.lines(), writer),
         Outcome::Skipped(_) => Ok(()),
         Outcome::Nothing => {
             let wanted = reporter.order().wanted;
-            write_rest(alloc, wanted, reporter.first(), run.at.index, writer)
+            write_rest(alloc, wanted, reporter.first(), at.index, writer)
         }
     }
 }
@@ -174,7 +175,7 @@ fn refusal_lines<B: Allocator + Copy, A: Allocator>(
 }
 
 /// Writes the lines of the `refusal` that ended the loop over the messages at the position `at`.
-fn write_refusal<W: Write, B: Allocator + Copy, A: Allocator + Copy>(
+pub(crate) fn write_refusal<W: Write, B: Allocator + Copy, A: Allocator + Copy>(
     alloc: A,
     order: &Order,
     at: Position,
@@ -183,30 +184,9 @@ fn write_refusal<W: Write, B: Allocator + Copy, A: Allocator + Copy>(
     writer: &mut Watched<W>,
 ) -> Result<(), RunFault>
     requires { has_failed writer.old ≡ false }
-    ensures { PutsClosing (spec.told_at order.now at refusal.now begun.now) (W.contents (inner_of writer.old))
-        (W.contents (inner_of writer.new)) (has_failed writer.old) (has_failed writer.new) result }
+    ensures { PutsText (spec.told_at order.now at refusal.now begun.now) (W.contents (inner_of writer.old))
+        (W.contents (inner_of writer.new)) (has_failed writer.new) result }
 {
     let lines = refusal_lines(alloc, order, at, refusal, begun)?;
     Ok(writer.write_all(lines.as_bytes())?)
-}
-
-/// Writes the lines of the refusal in `fault`, which ended the loop over the messages. For any other fault nothing is
-/// written.
-pub(crate) fn write_fault<W: Write, B: Allocator + Copy, A: Allocator + Copy>(
-    alloc: A,
-    order: &Order,
-    fault: RunFault,
-    begun: &Begun<B>,
-    writer: &mut Watched<W>,
-) -> Result<(), RunFault>
-    requires { IsFineIfTold fault (has_failed writer.old) }
-    ensures { PutsFault (λ at r. spec.told_at order.now at r begun.now) fault (W.contents (inner_of writer.old))
-        (W.contents (inner_of writer.new)) (has_failed writer.old) (has_failed writer.new) result }
-{
-    match fault {
-        RunFault::Memory | RunFault::Io | RunFault::InputTooLong => Ok(()),
-        RunFault::Refused(at, refusal) => {
-            write_refusal(alloc, order, at, &refusal, begun, writer)
-        }
-    }
 }

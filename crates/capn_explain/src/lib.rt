@@ -2,8 +2,8 @@
 //!
 //! [`run_explain`] explains the first refused message, or the message with a given number ([`Explain`]). The lines
 //! about this message are written at the end. [`run_explain_refused`] explains every refused message
-//! ([`ExplainRefused`]). Both runs pass the messages to the service [`Reporter`], in the loop over messages in
-//! [`capn_serve`].
+//! ([`ExplainRefused`]). Both runs pass the messages to the service [`Reporter`], by the function
+//! [`run_messages`](capn_serve::run_messages) of [`capn_serve`].
 #![tactic(auto)]
 
 mod account;
@@ -11,9 +11,9 @@ mod closing;
 mod explain;
 mod explain_refused;
 mod explain_run;
-mod fault;
 mod fault_lines;
 mod message_lines;
+mod one_reporter;
 mod order;
 mod outcome;
 mod refused_run;
@@ -24,7 +24,6 @@ pub use account::Account;
 pub use explain::Explain;
 pub use explain_refused::ExplainRefused;
 pub use explain_run::run_explain;
-pub use fault::ReportFault;
 pub use order::{Order, Wanted};
 pub use outcome::Outcome;
 pub use refused_run::run_explain_refused;

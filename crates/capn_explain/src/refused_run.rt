@@ -5,31 +5,19 @@ ghost use Rattle.capn_words.specs.Watched.{inner_of, has_failed};
 ghost use Rattle.capn_explain.specs.RefusedRun as spec;
 ghost use Rattle.capn_explain.specs.RefusedRun.{ExplainedRefused};
 
+use crate::closing::{ending_of, write_closing, write_refusal};
 use crate::explain_refused::ExplainRefused;
-use crate::explain_run::{explain_messages, first_run};
-use crate::fault::ReportFault;
 use crate::order::each_of;
 use crate::outcome::skipped_in;
-use capn_serve::{RunFault, SkippedSoFar, skipped_of};
+use crate::reporter::Reporter;
+use capn_canon::Refusal;
+use capn_serve::{
+    Begun, Finish, Position, RunFault, SkipFault, SkippedSoFar, run_messages, skip_fault_after,
+    skip_outcome,
+};
 use capn_words::Watched;
 use std::alloc::Allocator;
 use std::io::{Read, Write};
-
-/// Returns the fault of a run whose loop ended with `fault` after `messages` messages. `skipped` counts the messages
-/// that were refused by their walk.
-fn fault_after(skipped: Option<SkippedSoFar>, messages: u64, fault: RunFault) -> ReportFault
-    ensures { result ≡ spec.fault_after skipped messages fault }
-{
-    match skipped {
-        Some(skipped) => match fault {
-            RunFault::Refused(at, refusal) => {
-                ReportFault::RefusedAfterSkipped(skipped_of(skipped, messages), at, refusal)
-            }
-            RunFault::Memory | RunFault::Io | RunFault::InputTooLong => ReportFault::Ended(fault),
-        },
-        None => ReportFault::Ended(fault),
-    }
-}
 
 /// Returns the result of a run over `messages` messages whose loop and closing text ended with `end`. `skipped` counts
 /// the messages that were refused by their walk.
@@ -37,15 +25,59 @@ fn answer_by(
     skipped: Option<SkippedSoFar>,
     messages: u64,
     end: Result<(), RunFault>,
-) -> Result<(), ReportFault>
+) -> Result<(), SkipFault>
     ensures { result ≡ spec.answer_by skipped messages end }
 {
     match end {
-        Ok(()) => match skipped {
-            Some(skipped) => Err(ReportFault::Skipped(skipped_of(skipped, messages))),
-            None => Ok(()),
-        },
-        Err(fault) => Err(fault_after(skipped, messages, fault)),
+        Ok(()) => skip_outcome(skipped, messages),
+        Err(fault) => Err(skip_fault_after(skipped, messages, fault)),
+    }
+}
+
+impl<B: Allocator + Copy> Finish for Reporter<B> {
+    ghost use Rattle.capn_explain.specs.ExplainRun as run;
+    ghost use Rattle.capn_explain.specs.RefusedRun as spec;
+
+    type Found = ();
+
+    type Fault = SkipFault;
+
+    ghost closing = { run.closing };
+
+    ghost told = { run.told };
+
+    ghost outcome = { spec.outcome };
+
+    ghost stops = { spec.stops };
+
+    fn write_closing<W: Write, A: Allocator + Copy>(
+        &self,
+        alloc: A,
+        at: Position,
+        writer: &mut Watched<W>,
+    ) -> Result<(), RunFault> {
+        write_closing(alloc, self, at, writer)
+    }
+
+    fn write_told<W: Write, A: Allocator + Copy>(
+        &self,
+        alloc: A,
+        at: Position,
+        refusal: &Refusal,
+        begun: &Begun<A>,
+        writer: &mut Watched<W>,
+    ) -> Result<(), RunFault> {
+        write_refusal(alloc, &self.order(), at, refusal, begun, writer)
+    }
+
+    fn outcome(&self, at: Position) -> Result<(), SkipFault> {
+        let skipped = skipped_in(self.explained());
+        answer_by(skipped, at.index, ending_of(self))
+    }
+
+    fn stops(&self, at: Position, stopped: RunFault) -> SkipFault {
+        let skipped = skipped_in(self.explained());
+        skip_fault_after(skipped, at.index, stopped)
     }
 }
 
@@ -58,7 +90,7 @@ fn answer_by(
 /// refused, the text of `run_explain` is written, without an empty line. This text is the lines of the only message, or
 /// a line that shows the number of messages.
 ///
-/// Input is read as [`serve_form_with`] reads it. The run ends with `Ok`, with `Skipped` if all of the input was read
+/// Input is read as [`run_messages`] reads it. The run ends with `Ok`, with `Skipped` if all of the input was read
 /// and messages were refused by their walk, or with the first fault. For a refused frame, group or bare input, the
 /// fault is `Ended` with the refusal and its position, or `RefusedAfterSkipped` if earlier messages were refused by
 /// their walk. Any other fault is `Ended` with `InputTooLong`, with `Io` if and only if the reader or the writer
@@ -71,15 +103,14 @@ pub fn run_explain_refused<R: Read, W: Write, A: Allocator + Copy>(
     order: ExplainRefused,
     reader: &mut Watched<R>,
     writer: &mut Watched<W>,
-) -> Result<(), ReportFault>
+) -> Result<(), SkipFault>
     requires reader_fine { has_failed reader.old ≡ false }
     requires writer_fine { has_failed writer.old ≡ false }
     ensures { ExplainedRefused order (R.remaining (inner_of reader.old)) (R.remaining (inner_of reader.new))
         (W.contents (inner_of writer.old)) (W.contents (inner_of writer.new)) (has_failed reader.new)
         (has_failed writer.new) result }
 {
-    let order = each_of(order);
-    let mut run = first_run(alloc, &order);
-    let end = explain_messages(alloc, &order, &mut run, reader, writer);
-    answer_by(skipped_in(run.service.outcome()), run.at.index, end)
+    let (form, limits) = (order.form, order.limits);
+    let reporter = Reporter::new(alloc, each_of(order));
+    run_messages(alloc, form, limits, reporter, reader, writer)
 }

@@ -100,7 +100,7 @@ impl<B: Allocator + Copy> Reporter<B> {
     }
 
     /// Returns the messages explained so far.
-    pub(crate) fn outcome(&self) -> Outcome
+    pub(crate) fn explained(&self) -> Outcome
         ensures { result ≡ self.now.outcome }
     {
         self.outcome

@@ -3,11 +3,11 @@
 use Rattle.std.specs.Prelude.{ℕ, Result}
 use Rattle.capn_serve.specs.Ending.{status_of_ending}
 use Rattle.capn_serve.specs.FaultText as served
+use Rattle.capn_serve.specs.SkipFault as skipping
 use Rattle.capn_serve.specs.declared.fault.RunFault.{RunFault}
+use Rattle.capn_serve.specs.declared.skip_fault.SkipFault.{SkipFault}
 use Rattle.capn_archive.specs.FaultText as archived
 use Rattle.capn_archive.specs.declared.fault.ArchiveFault.{ArchiveFault}
-use Rattle.capn_explain.specs.FaultText as reported
-use Rattle.capn_explain.specs.declared.fault.ReportFault.{ReportFault}
 use Rattle.capn_make.specs.FaultText as made
 use Rattle.capn_make.specs.declared.fault.MakeFault.{MakeFault}
 use Rattle.capn_commands.specs.FlowFaultText as flowing
@@ -22,8 +22,8 @@ abbrev pub pick_status : Result (Unit {0}) RunFault → ℕ
 pick_status = status_of_ending served.status_of
 
 -- The exit status after a run that explains every refused message.
-abbrev pub report_status : Result (Unit {0}) ReportFault → ℕ
-report_status = status_of_ending reported.status_of
+abbrev pub report_status : Result (Unit {0}) SkipFault → ℕ
+report_status = status_of_ending skipping.status_of
 
 -- The exit status after a run that makes messages from texts.
 abbrev pub make_status : Result (Unit {0}) MakeFault → ℕ

@@ -7,6 +7,7 @@ use Rattle.capn_commands.specs.declared.fault.ToolFault.TheVariants as faults
 use Rattle.capn_archive.specs.ArchiveRun.{Archived}
 use Rattle.capn_archive.specs.FilterRun.{Filtered}
 use Rattle.capn_archive.specs.UniqRun.{Deduplicated}
+use Rattle.capn_archive.specs.declared.fault.ArchiveFault.{ArchiveFault}
 use Rattle.capn_archive.specs.declared.fault.ArchiveFault.TheVariants as archive_faults
 use Rattle.capn_cmp.specs.FaultText.{cmp_text}
 use Rattle.capn_cmp.specs.declared.cmp_order.CmpOrder.{CmpOrder}
@@ -15,9 +16,9 @@ use Rattle.capn_cmp.specs.declared.fault.CmpFault.{CmpFault}
 use Rattle.capn_serve.specs.Ending.{WritesEnding}
 use Rattle.capn_serve.specs.PickRun.{Picks}
 use Rattle.capn_serve.specs.declared.fault.RunFault.TheVariants as run_faults
+use Rattle.capn_serve.specs.declared.skip_fault.SkipFault.TheVariants as skip_faults
 use Rattle.capn_explain.specs.ExplainRun.{Explained}
 use Rattle.capn_explain.specs.RefusedRun.{ExplainedRefused}
-use Rattle.capn_explain.specs.declared.fault.ReportFault.TheVariants as report_faults
 use Rattle.capn_commands.specs.declared.flow_fault.FlowFault.TheVariants as flow_faults
 use Rattle.capn_make.specs.declared.fault.MakeFault.TheVariants as make_faults
 use Rattle.capn_args.specs.CommandLine.{program_line}
@@ -78,7 +79,7 @@ EndsExplain =
 -- written to `errors`, and the exit status.
 abbrev pub EndsExplainRefused : List Text → Course → Course → Course → ℕ → Type 0
 EndsExplainRefused =
-    EndsRunOrder (λ refused. invocations.Explain (explanations.Refused refused)) (report_faults.Ended run_faults.Io)
+    EndsRunOrder (λ refused. invocations.Explain (explanations.Refused refused)) (skip_faults.Ended run_faults.Io)
     ExplainedRefused WritesReportEnding report_status
 
 -- The words mean a run that annotates messages. The run was carried out, and its outcome decides what was written to
@@ -87,23 +88,27 @@ abbrev pub EndsAnnotate : List Text → Course → Course → Course → ℕ →
 EndsAnnotate =
     EndsRunOrder (λ annotate. invocations.Annotate annotate) faults.Io MessagesAnnotated ReportsEnding status_of
 
+-- The fault that ends a run over an archive if its output failed.
+abbrev pub archive_io : ArchiveFault
+archive_io = archive_faults.Ended (skip_faults.Ended run_faults.Io)
+
 -- The words mean a run over an archive. The run was carried out, and its outcome decides what was written to `errors`,
 -- and the exit status.
 abbrev pub EndsArchive : List Text → Course → Course → Course → ℕ → Type 0
 EndsArchive =
-    EndsRunOrder (λ archive. invocations.Archive archive) archive_faults.Io Archived WritesArchiveEnding archive_status
+    EndsRunOrder (λ archive. invocations.Archive archive) archive_io Archived WritesArchiveEnding archive_status
 
 -- The words mean a run that omits or counts duplicates. The run was carried out, and its outcome decides what was
 -- written to `errors`, and the exit status.
 abbrev pub EndsUniq : List Text → Course → Course → Course → ℕ → Type 0
 EndsUniq =
-    EndsRunOrder (λ uniq. invocations.Uniq uniq) archive_faults.Io Deduplicated WritesArchiveEnding archive_status
+    EndsRunOrder (λ uniq. invocations.Uniq uniq) archive_io Deduplicated WritesArchiveEnding archive_status
 
 -- The words mean a run that writes accepted messages. The run was carried out, and its outcome decides what was written
 -- to `errors`, and the exit status.
 abbrev pub EndsFilter : List Text → Course → Course → Course → ℕ → Type 0
 EndsFilter =
-    EndsRunOrder (λ filter. invocations.Filter filter) archive_faults.Io Filtered WritesArchiveEnding archive_status
+    EndsRunOrder (λ filter. invocations.Filter filter) archive_io Filtered WritesArchiveEnding archive_status
 
 -- The words mean a run that compares messages. The run had the result `found`, and the flush of the output gave
 -- `outcome`. `outcome` decides what was written to `errors`, and `found` and `outcome` decide the exit status.

@@ -40,15 +40,13 @@ pub use capn_commands::{Command, MessageText, ToolFault, end, fault_text, run, s
 
 // Types in the signatures of the functions that this crate exports.
 pub use capn_annotate::AnnotateOrder;
-pub use capn_archive::{
-    ArchiveFault, ArchiveOrder, FilterOrder, Position, RunFault, Skipped, Task, UniqOrder,
-};
+pub use capn_archive::{ArchiveFault, ArchiveOrder, FilterOrder, Task, UniqOrder};
 pub use capn_canon::{Form, Limits, Refusal, Tariff};
 pub use capn_cmp::{CmpFault, CmpOrder, Comparison};
 pub use capn_commands::FlowFault;
-pub use capn_explain::{Explain, ExplainRefused, ReportFault};
+pub use capn_explain::{Explain, ExplainRefused};
 pub use capn_make::{MakeFault, Misfit};
-pub use capn_serve::{Pick, StreamForm};
+pub use capn_serve::{Pick, Position, RunFault, SkipFault, Skipped, StreamForm};
 pub use capn_show::Style;
 pub use capn_value::Memory;
 pub use capn_words::Watched;

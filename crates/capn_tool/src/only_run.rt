@@ -4,9 +4,8 @@ ghost use Rattle.std.specs.Prelude.{◌≡◌, false};
 ghost use Rattle.capn_words.specs.Watched.{inner_of, has_failed};
 ghost use Rattle.capn_tool.specs.OnlyRun.{OnlyPicked};
 
-use capn_archive::RunFault;
 use capn_args::{Only, ranges_in};
-use capn_serve::run_only;
+use capn_serve::{RunFault, run_only};
 use capn_words::Watched;
 use std::alloc::Allocator;
 use std::io::{Read, Write};

@@ -13,17 +13,20 @@ use crate::only_run::pick_only;
 use crate::part_run::show_parts;
 use crate::run_end::finish;
 use crate::unordered::end_unordered;
-use capn_archive::{ArchiveFault, RunFault, run_archive, run_filter, run_uniq};
+use capn_archive::{ArchiveFault, run_archive, run_filter, run_uniq};
 use capn_args::{Explanation, Invocation, invocation_of};
 use capn_cmp::run_cmp;
 use capn_commands::{FlowFault, ToolFault, end};
-use capn_explain::{ReportFault, run_explain, run_explain_refused};
+use capn_explain::{run_explain, run_explain_refused};
 use capn_make::MakeFault;
-use capn_serve::run_pick;
+use capn_serve::{RunFault, SkipFault, run_pick};
 use capn_words::Watched;
 use std::alloc::Global;
 use std::convert::AsStr;
 use std::io::{Read, Write};
+
+/// The fault that ends a run over an archive if its output failed.
+const ARCHIVE_IO: ArchiveFault = ArchiveFault::Ended(SkipFault::Ended(RunFault::Io));
 
 /// Runs the program, from the words of the command line to the exit status. The first word is the program's name.
 ///
@@ -75,7 +78,7 @@ pub fn program<'a, S: AsStr, R: Read, W: Write, E: Write>(
                 }
                 Explanation::Refused(refused) => {
                     let explained = run_explain_refused(alloc, refused, reader, writer);
-                    finish(explained, ReportFault::Ended(RunFault::Io), writer, errors)
+                    finish(explained, SkipFault::Ended(RunFault::Io), writer, errors)
                 }
             },
             Invocation::Annotate(annotate) => {
@@ -84,15 +87,15 @@ pub fn program<'a, S: AsStr, R: Read, W: Write, E: Write>(
             }
             Invocation::Archive(archive) => {
                 let archived = run_archive(alloc, archive, reader, writer);
-                finish(archived, ArchiveFault::Io, writer, errors)
+                finish(archived, ARCHIVE_IO, writer, errors)
             }
             Invocation::Uniq(uniq) => {
                 let sifted = run_uniq(alloc, uniq, reader, writer);
-                finish(sifted, ArchiveFault::Io, writer, errors)
+                finish(sifted, ARCHIVE_IO, writer, errors)
             }
             Invocation::Filter(filter) => {
                 let let_through = run_filter(alloc, filter, reader, writer);
-                finish(let_through, ArchiveFault::Io, writer, errors)
+                finish(let_through, ARCHIVE_IO, writer, errors)
             }
             Invocation::Cmp(cmp) => {
                 let found = run_cmp(alloc, cmp, reader, writer);

@@ -5,26 +5,16 @@ use anyhow::{Result, anyhow};
 use capn_archive::{run_archive, run_filter, run_uniq};
 use capn_cmp::run_cmp;
 use capn_commands::{FlowFault, pack_stream, unpack_stream};
-use capn_explain::{ReportFault, run_explain, run_explain_refused};
+use capn_explain::{run_explain, run_explain_refused};
 use capn_make::{MakeFault, make, make_texts};
 use capn_serve::{Ending, end, run_pick};
 use capn_tool::{
-    ArchiveFault, CmpFault, Comparison, Explanation, Flow, Invocation, RunFault, annotate_messages,
-    invocation_of, pick_only, show_parts,
+    ArchiveFault, CmpFault, Comparison, Explanation, Flow, Invocation, RunFault, SkipFault,
+    annotate_messages, invocation_of, pick_only, show_parts,
 };
 use capn_words::Watched;
 use conformance_cases::{Heap, bytes_at, cut_short, digits_of, form_at, push_told};
 use std::alloc::Global;
-
-/// Maps the fault of a run that picks or explains messages to the fault of a run over an archive.
-fn archive_fault_of(fault: RunFault) -> ArchiveFault {
-    match fault {
-        RunFault::Memory => ArchiveFault::Memory,
-        RunFault::Io => ArchiveFault::Io,
-        RunFault::InputTooLong => ArchiveFault::InputTooLong,
-        RunFault::Refused(at, refusal) => ArchiveFault::Refused(at, refusal),
-    }
-}
 
 /// Returns the answer for a run: its status, the bytes that are `written`, and the lines on standard error.
 fn run_told<F: Ending>(alloc: Global, outcome: &Result<(), F>, written: &[u8]) -> Result<String> {
@@ -39,21 +29,29 @@ fn run_told<F: Ending>(alloc: Global, outcome: &Result<(), F>, written: &[u8]) -
     Ok(told)
 }
 
+/// Returns the answer for a run that picks, explains or compares messages, with the bytes that are `written`.
+fn ended_told(alloc: Global, outcome: Result<(), RunFault>, written: &[u8]) -> Result<String> {
+    if let Err(RunFault::Memory) = outcome {
+        return cut_short(alloc, written);
+    }
+    run_told(alloc, &outcome, written)
+}
+
 /// Returns the answer for a run over an archive, with the bytes that are `written`.
 fn archive_told(
     alloc: Global,
     outcome: Result<(), ArchiveFault>,
     written: &[u8],
 ) -> Result<String> {
-    if let Err(ArchiveFault::Memory) = outcome {
+    if let Err(ArchiveFault::Ended(SkipFault::Ended(RunFault::Memory))) = outcome {
         return cut_short(alloc, written);
     }
     run_told(alloc, &outcome, written)
 }
 
 /// Returns the answer for a run that explains every refused message, with the bytes that are `written`.
-fn report_told(alloc: Global, outcome: Result<(), ReportFault>, written: &[u8]) -> Result<String> {
-    if let Err(ReportFault::Ended(RunFault::Memory)) = outcome {
+fn report_told(alloc: Global, outcome: Result<(), SkipFault>, written: &[u8]) -> Result<String> {
+    if let Err(SkipFault::Ended(RunFault::Memory)) = outcome {
         return cut_short(alloc, written);
     }
     run_told(alloc, &outcome, written)
@@ -70,7 +68,7 @@ fn found_told(
     match found {
         Ok(Comparison::Same) => Ok(format!(in alloc; "status 0, {digits}")?),
         Ok(Comparison::Different) => Ok(format!(in alloc; "status 1, {digits}")?),
-        Err(CmpFault::Run(fault)) => archive_told(alloc, Err(archive_fault_of(fault)), written),
+        Err(CmpFault::Run(fault)) => ended_told(alloc, Err(fault), written),
         Err(CmpFault::TooFew) => {
             Ok(format!(in alloc; "status 1, {digits}, capn: fewer than two messages")?)
         }
@@ -107,11 +105,8 @@ pub(crate) fn archive_answer(alloc: Global, heap: &Heap, words: &[&str]) -> Resu
             tool_told(alloc, heap, outcome, writer.into_inner().as_slice())
         }
         Invocation::Explain(Explanation::One(explain)) => {
-            let outcome = match run_explain(heap, explain, &mut reader, &mut writer) {
-                Ok(()) => Ok(()),
-                Err(fault) => Err(archive_fault_of(fault)),
-            };
-            archive_told(alloc, outcome, writer.into_inner().as_slice())
+            let outcome = run_explain(heap, explain, &mut reader, &mut writer);
+            ended_told(alloc, outcome, writer.into_inner().as_slice())
         }
         Invocation::Explain(Explanation::Refused(refused)) => {
             let outcome = run_explain_refused(heap, refused, &mut reader, &mut writer);
@@ -138,18 +133,12 @@ pub(crate) fn archive_answer(alloc: Global, heap: &Heap, words: &[&str]) -> Resu
             found_told(alloc, found, writer.into_inner().as_slice())
         }
         Invocation::Pick(pick) => {
-            let outcome = match run_pick(heap, pick, &mut reader, &mut writer) {
-                Ok(()) => Ok(()),
-                Err(fault) => Err(archive_fault_of(fault)),
-            };
-            archive_told(alloc, outcome, writer.into_inner().as_slice())
+            let outcome = run_pick(heap, pick, &mut reader, &mut writer);
+            ended_told(alloc, outcome, writer.into_inner().as_slice())
         }
         Invocation::Only(only) => {
-            let outcome = match pick_only(heap, &only, &mut reader, &mut writer) {
-                Ok(()) => Ok(()),
-                Err(fault) => Err(archive_fault_of(fault)),
-            };
-            archive_told(alloc, outcome, writer.into_inner().as_slice())
+            let outcome = pick_only(heap, &only, &mut reader, &mut writer);
+            ended_told(alloc, outcome, writer.into_inner().as_slice())
         }
         Invocation::Flow(Flow::Pack) => {
             let outcome = pack_stream(heap, &mut reader, &mut writer);

@@ -3,7 +3,7 @@
 use crate::broken::Short;
 use capn_serve::{Line, end};
 use capn_tool::{
-    ArchiveFault, FlowFault, MakeFault, Position, Refusal, ReportFault, RunFault, Skipped, Watched,
+    ArchiveFault, FlowFault, MakeFault, Position, Refusal, RunFault, SkipFault, Skipped, Watched,
 };
 use std::io::{self, Write};
 use std::process::Abort;
@@ -26,7 +26,7 @@ const SKIPPED_LINE: &str = "capn: 18446744073709551615 of 18446744073709551615 m
     the first is 18446744073709551616 at 18446744073709551615\n";
 
 /// The fault of a run that skipped `SKIPPED`, and then met a refused frame.
-const REFUSED_AFTER: ArchiveFault = ArchiveFault::RefusedAfterSkipped(
+const REFUSED_AFTER: SkipFault = SkipFault::RefusedAfterSkipped(
     SKIPPED,
     LAST,
     Refusal::Trailing(u64::MAX),
@@ -101,8 +101,12 @@ fn a_run_over_bytes_ends_with_its_line(rt: HostRuntime) {
 fn a_run_over_an_archive_ends_with_its_line(rt: HostRuntime) {
     for (outcome, status, line) in [
         (Ok(()), 0, ""),
-        (Err(ArchiveFault::Skipped(SKIPPED)), 1, SKIPPED_LINE),
-        (Err(REFUSED_AFTER), 1, TWO_LINES),
+        (
+            Err(ArchiveFault::Ended(SkipFault::Skipped(SKIPPED))),
+            1,
+            SKIPPED_LINE,
+        ),
+        (Err(ArchiveFault::Ended(REFUSED_AFTER)), 1, TWO_LINES),
         (
             Err(ArchiveFault::NotCanonical(LAST)),
             1,
@@ -120,22 +124,18 @@ fn a_run_that_explains_every_refused_message_ends_with_its_line(rt: HostRuntime)
     let picked = RunFault::Refused(LAST, Refusal::Capability(u32::MAX));
     for (outcome, status, line) in [
         (Ok(()), 0, ""),
-        (Err(ReportFault::Skipped(SKIPPED)), 1, SKIPPED_LINE),
+        (Err(SkipFault::Skipped(SKIPPED)), 1, SKIPPED_LINE),
         (
-            Err(ReportFault::Ended(picked)),
+            Err(SkipFault::Ended(picked)),
             1,
             "capn: message 18446744073709551616 at 18446744073709551615: capability 4294967295\n",
         ),
         (
-            Err(ReportFault::Ended(RunFault::Memory)),
+            Err(SkipFault::Ended(RunFault::Memory)),
             3,
             "capn: out of memory\n",
         ),
-        (
-            Err(ReportFault::RefusedAfterSkipped(SKIPPED, LAST, Refusal::Trailing(u64::MAX))),
-            1,
-            TWO_LINES,
-        ),
+        (Err(REFUSED_AFTER), 1, TWO_LINES),
     ] {
         let mut errors = Watched::new(Vec::new(rt.alloc()));
         assert!(rt; end(&outcome, &mut errors) == status, "{line}");
@@ -171,11 +171,20 @@ fn lines_of_faults(rt: HostRuntime) {
         first,
     };
     for (fault, want) in [
-        (ArchiveFault::Memory, "capn: out of memory\n"),
-        (ArchiveFault::Io, "capn: input or output failed\n"),
-        (ArchiveFault::InputTooLong, "capn: input too long\n"),
         (
-            ArchiveFault::Refused(first, Refusal::Capability(2)),
+            ArchiveFault::Ended(SkipFault::Ended(RunFault::Memory)),
+            "capn: out of memory\n",
+        ),
+        (
+            ArchiveFault::Ended(SkipFault::Ended(RunFault::Io)),
+            "capn: input or output failed\n",
+        ),
+        (
+            ArchiveFault::Ended(SkipFault::Ended(RunFault::InputTooLong)),
+            "capn: input too long\n",
+        ),
+        (
+            ArchiveFault::Ended(SkipFault::Ended(RunFault::Refused(first, Refusal::Capability(2)))),
             "capn: message 3 at 40: capability 2\n",
         ),
         (
@@ -183,11 +192,15 @@ fn lines_of_faults(rt: HostRuntime) {
             "capn: message 3 at 40: not canonical\n",
         ),
         (
-            ArchiveFault::Skipped(skipped),
+            ArchiveFault::Ended(SkipFault::Skipped(skipped)),
             "capn: 3 of 12 messages refused, the first is 3 at 40\n",
         ),
         (
-            ArchiveFault::RefusedAfterSkipped(skipped, LAST, Refusal::Trailing(6)),
+            ArchiveFault::Ended(SkipFault::RefusedAfterSkipped(
+                skipped,
+                LAST,
+                Refusal::Trailing(6),
+            )),
             "capn: 3 of 12 messages refused, the first is 3 at 40\n\
             capn: message 18446744073709551616 at 18446744073709551615: trailing bytes at 6\n",
         ),
@@ -201,7 +214,7 @@ fn lines_of_faults(rt: HostRuntime) {
 #[test]
 fn the_longest_lines_are_whole(rt: HostRuntime) {
     let mut errors = Watched::new(Vec::new(rt.alloc()));
-    assert!(rt; end(&Err(ArchiveFault::Skipped(SKIPPED)), &mut errors) == 1);
+    assert!(rt; end(&Err(SkipFault::Skipped(SKIPPED)), &mut errors) == 1);
     assert!(rt; errors.into_inner().as_slice() == SKIPPED_LINE.as_bytes());
     let mut errors = Watched::new(Vec::new(rt.alloc()));
     let fault = RunFault::Refused(LAST, Refusal::Capability(u32::MAX));
@@ -222,7 +235,7 @@ fn the_longest_lines_are_whole(rt: HostRuntime) {
 #[test]
 fn a_beginning_of_the_lines_stays_where_the_errors_fail(rt: HostRuntime) {
     for (fault, lines) in [
-        (ArchiveFault::Skipped(SKIPPED), SKIPPED_LINE),
+        (SkipFault::Skipped(SKIPPED), SKIPPED_LINE),
         (REFUSED_AFTER, TWO_LINES),
     ] {
         let lines = lines.as_bytes();
@@ -244,7 +257,7 @@ fn a_beginning_of_the_lines_stays_where_the_errors_fail(rt: HostRuntime) {
 #[test]
 fn the_lines_are_one_write(rt: HostRuntime) {
     for (fault, lines) in [
-        (ArchiveFault::Skipped(SKIPPED), SKIPPED_LINE),
+        (SkipFault::Skipped(SKIPPED), SKIPPED_LINE),
         (REFUSED_AFTER, TWO_LINES),
     ] {
         let mut errors = Watched::new(Counted {

@@ -3,8 +3,9 @@
 use capn_canon::Refusal;
 use capn_pack::UnpackFault;
 use capn_serve::{
-    Line, Position, ServeFault, Skipped, SkippedSoFar, fault_of_stop, number_of, one_more,
-    say_place, say_refusal, say_skipped, skipped_of,
+    Line, Position, RunFault, ServeFault, SkipFault, Skipped, SkippedSoFar, fault_of_stop,
+    number_of, one_more, say_place, say_refusal, say_skipped, skip_fault_after, skip_outcome,
+    skipped_of,
 };
 use capn_stream::FrameFault;
 use capn_walk::{Fault, Stopped};
@@ -181,6 +182,32 @@ fn counts_of_skipped_messages(rt: HostRuntime) {
                 first: FIRST
             }
     );
+}
+
+/// The count of the skipped messages comes with a refused frame, and with the end of the input. A message that ends the
+/// run is reported alone.
+#[test]
+fn faults_of_runs_that_skip(rt: HostRuntime) {
+    let one = SkippedSoFar {
+        count: 1,
+        first: FIRST,
+    };
+    let told = skipped_of(one, 7);
+    assert!(rt; skip_outcome(None, 7) == Ok(()));
+    assert!(rt; skip_outcome(Some(one), 7) == Err(SkipFault::Skipped(told)));
+    let cut = Refusal::Frame(FrameFault::Cut);
+    let fault = RunFault::Refused(LAST, cut);
+    assert!(rt; skip_fault_after(None, 7, fault) == SkipFault::Ended(fault));
+    let after = SkipFault::RefusedAfterSkipped(told, LAST, cut);
+    assert!(rt; skip_fault_after(Some(one), 7, fault) == after);
+    for alone in [
+        RunFault::Memory,
+        RunFault::Io,
+        RunFault::InputTooLong,
+        RunFault::Refused(LAST, Refusal::Capability(2)),
+    ] {
+        assert!(rt; skip_fault_after(Some(one), 7, alone) == SkipFault::Ended(alone));
+    }
 }
 
 /// Returns the text that `say_skipped` writes for `skipped`.

@@ -1,11 +1,12 @@
 //! Tests of the positions that are passed to a service. These tests define the service.
 
-ghost use Rattle.std.specs.Prelude.{⊤};
+ghost use Rattle.std.specs.Prelude.{⊤, Ok};
 
 use capn_canon::{Form, Refusal};
 use capn_pack::UnpackFault;
 use capn_serve::{
-    Begun, Position, Run, RunFault, ServeFault, Service, flush_long, run_packed, serve_form_with,
+    Begun, Finish, Position, Run, RunFault, ServeFault, Service, flush_long, run_packed,
+    serve_form_with,
 };
 use capn_stream::FrameFault;
 use capn_words::{Space, Watched};
@@ -48,6 +49,51 @@ impl Service for Places {
             Ok(()) => flush_long(text, writer),
             Err(_) => Err(ServeFault::Memory),
         }
+    }
+}
+
+/// A run has the number of its messages as its result, and writes nothing after the messages.
+impl Finish for Places {
+    ghost use Rattle.capn_serve.specs.Finish.{no_closing, nothing_told};
+
+    type Found = u64;
+
+    type Fault = RunFault;
+
+    ghost closing = { no_closing };
+
+    ghost told = { nothing_told };
+
+    ghost outcome = { λ s at. Ok at.index };
+
+    ghost stops = { λ s at fault. fault };
+
+    fn write_closing<W: Write, A: Allocator + Copy>(
+        &self,
+        _alloc: A,
+        _at: Position,
+        _writer: &mut Watched<W>,
+    ) -> Result<(), RunFault> {
+        Ok(())
+    }
+
+    fn write_told<W: Write, A: Allocator + Copy>(
+        &self,
+        _alloc: A,
+        _at: Position,
+        _refusal: &Refusal,
+        _begun: &Begun<A>,
+        _writer: &mut Watched<W>,
+    ) -> Result<(), RunFault> {
+        Ok(())
+    }
+
+    fn outcome(&self, at: Position) -> Result<u64, RunFault> {
+        Ok(at.index)
+    }
+
+    fn stops(&self, _at: Position, stopped: RunFault) -> RunFault {
+        stopped
     }
 }
 

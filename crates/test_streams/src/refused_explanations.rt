@@ -2,8 +2,8 @@
 
 use crate::explanations::{FIRST, FOURTH, FRAMES, Once, SECOND};
 use capn_canon::{BareFault, Form, FrameFault, Limits, Refusal};
-use capn_explain::{ExplainRefused, ReportFault, run_explain_refused};
-use capn_serve::{Position, RunFault, Skipped};
+use capn_explain::{ExplainRefused, run_explain_refused};
+use capn_serve::{Position, RunFault, SkipFault, Skipped};
 use capn_words::Watched;
 use std::alloc::{Allocator, Global};
 use std::io::Read;
@@ -14,7 +14,7 @@ use test_allocator::Refusing;
 #[derive(Drop)]
 struct Outcome {
     text: Vec<u8>,
-    ending: Result<(), ReportFault>,
+    ending: Result<(), SkipFault>,
 }
 
 /// Explains every refused message of `input`, with the allocator `heap`.
@@ -61,13 +61,13 @@ fn lines_of_two(alloc: Global) -> Result<String, Fail> {
 fn explains_every_refused_message(rt: HostRuntime) -> Result<(), Fail> {
     let two = explained(rt.alloc(), Form::Stream, &FRAMES);
     let lines = lines_of_two(rt.alloc())?;
-    assert!(rt; two.ending == Err(ReportFault::Skipped(TWO_OF_FOUR)));
+    assert!(rt; two.ending == Err(SkipFault::Skipped(TWO_OF_FOUR)));
     assert!(rt; two.text.as_slice() == lines.as_bytes());
     let packed = [
         0x10, 1, 0, 0, 0x10, 1, 0x10, 1, 0x10, 1, 0, 0, 0x10, 1, 0x10, 1,
     ];
     let unpacked = explained(rt.alloc(), Form::Packed, &packed);
-    assert!(rt; unpacked.ending == Err(ReportFault::Skipped(TWO_OF_FOUR)));
+    assert!(rt; unpacked.ending == Err(SkipFault::Skipped(TWO_OF_FOUR)));
     assert!(rt; unpacked.text.as_slice() == lines.as_bytes());
     Ok(())
 }
@@ -119,12 +119,12 @@ content: words 5 to 6 of segment 0, which has 2
         },
     };
     let ample = explained(rt.alloc(), Form::Stream, &NOT_CANONICAL_THEN_REFUSED);
-    assert!(rt; ample.ending == Err(ReportFault::Skipped(skipped)));
+    assert!(rt; ample.ending == Err(SkipFault::Skipped(skipped)));
     assert!(rt; ample.text.as_slice() == lines.as_bytes());
     let heap = Refusing::nth(rt.alloc(), 1);
     let input = NOT_CANONICAL_THEN_REFUSED.as_slice();
     let refused = explained_by(rt.alloc(), &heap, Form::Stream, input);
-    assert!(rt; refused.ending == Err(ReportFault::Skipped(skipped)));
+    assert!(rt; refused.ending == Err(SkipFault::Skipped(skipped)));
     assert!(rt; refused.text.as_slice() == lines.as_bytes());
     Ok(())
 }
@@ -145,7 +145,7 @@ fn explains_a_cut_frame_last(rt: HostRuntime) -> Result<(), Fail> {
     let lines = "message: 3 at 32\nrefused: frame: Cut\nthere: 4 bytes of at least 8\n\n";
     let after = explained(rt.alloc(), Form::Stream, &FRAMES[..36]);
     let both = format!(in rt.alloc(); "{SECOND}\n{lines}")?;
-    assert!(rt; after.ending == Err(ReportFault::RefusedAfterSkipped(skipped, at, cut)));
+    assert!(rt; after.ending == Err(SkipFault::RefusedAfterSkipped(skipped, at, cut)));
     assert!(rt; after.text.as_slice() == both.as_bytes());
     let first = explained(rt.alloc(), Form::Stream, &FRAMES[..4]);
     let alone = "message: 1 at 0\nrefused: frame: Cut\nthere: 4 bytes of at least 8\n\n";
@@ -153,7 +153,7 @@ fn explains_a_cut_frame_last(rt: HostRuntime) -> Result<(), Fail> {
         index: 0,
         offset: 0,
     };
-    assert!(rt; first.ending == Err(ReportFault::Ended(RunFault::Refused(start, cut))));
+    assert!(rt; first.ending == Err(SkipFault::Ended(RunFault::Refused(start, cut))));
     assert!(rt; first.text.as_slice() == alone.as_bytes());
     Ok(())
 }
@@ -177,7 +177,7 @@ group: byte 6 of the packed input, tag 10: needs 2 bytes, 1 came
 
 ";
     assert!(rt; cut.text.as_slice() == lines.as_bytes());
-    assert!(rt; matches!(&cut.ending, Err(ReportFault::RefusedAfterSkipped(_, _, _))));
+    assert!(rt; matches!(&cut.ending, Err(SkipFault::RefusedAfterSkipped(_, _, _))));
     Ok(())
 }
 
@@ -197,12 +197,12 @@ fn explains_a_bare_message(rt: HostRuntime) -> Result<(), Fail> {
     let refused = explained(rt.alloc(), Form::Bare, &[]);
     let empty =
         "message: 1 at 0\nsegments: 1 of 0 words\nrefused: NoRoot at 0:0, paid 0, visits 0\n\n";
-    assert!(rt; refused.ending == Err(ReportFault::Skipped(one_of_one)));
+    assert!(rt; refused.ending == Err(SkipFault::Skipped(one_of_one)));
     assert!(rt; refused.text.as_slice() == empty.as_bytes());
     let nine = explained(rt.alloc(), Form::Bare, &FRAMES[..9]);
     let lines = "message: 1 at 0\nrefused: bare: NotWhole(9)\nthere: 9 bytes\n\n";
     let fault = RunFault::Refused(start, Refusal::Bare(BareFault::NotWhole(9)));
-    assert!(rt; nine.ending == Err(ReportFault::Ended(fault)));
+    assert!(rt; nine.ending == Err(SkipFault::Ended(fault)));
     assert!(rt; nine.text.as_slice() == lines.as_bytes());
     Ok(())
 }
@@ -216,7 +216,7 @@ fn writes_before_it_reads_again(rt: HostRuntime) -> Result<(), Fail> {
     };
     let cut = explained_by(rt.alloc(), rt.alloc(), Form::Stream, input);
     let lines = lines_of_two(rt.alloc())?;
-    assert!(rt; cut.ending == Err(ReportFault::Ended(RunFault::Io)));
+    assert!(rt; cut.ending == Err(SkipFault::Ended(RunFault::Io)));
     assert!(rt; cut.text.as_slice() == lines.as_bytes());
     Ok(())
 }
@@ -229,11 +229,11 @@ fn tells_that_memory_ran_out(rt: HostRuntime) -> Result<(), Fail> {
         let heap = Refusing::nth(rt.alloc(), refused);
         let run = explained_by(rt.alloc(), &heap, Form::Stream, FRAMES.as_slice());
         if heap.has_spared() {
-            assert!(rt; run.ending == Err(ReportFault::Skipped(TWO_OF_FOUR)) && refused > 1);
+            assert!(rt; run.ending == Err(SkipFault::Skipped(TWO_OF_FOUR)) && refused > 1);
             return Ok(());
         }
         assert!(rt;
-            run.ending == Err(ReportFault::Ended(RunFault::Memory))
+            run.ending == Err(SkipFault::Ended(RunFault::Memory))
                 && lines.as_bytes().starts_with(run.text.as_slice()),
             "{refused}"
         );

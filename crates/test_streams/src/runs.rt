@@ -2,9 +2,11 @@
 
 use crate::picks::Once;
 use crate::places::{Places, Single};
-use capn_canon::{Form, Refusal};
+use capn_canon::{Form, Limits, Refusal};
 use capn_pack::UnpackFault;
-use capn_serve::{Position, Run, RunFault, ServeFault, add_bytes, run_stream, serve_form};
+use capn_serve::{
+    Position, Run, RunFault, ServeFault, add_bytes, run_messages, run_stream, serve_form,
+};
 use capn_stream::FrameFault;
 use capn_words::{BareFault, Watched};
 use std::alloc::{AllocError, Global};
@@ -229,4 +231,34 @@ fn short_bytes_without_memory(rt: HostRuntime) {
     let ending = add_bytes(b"abc", &mut text, &mut writer);
     assert!(rt; ending == Err(ServeFault::Memory) && text.is_empty());
     assert!(rt; writer.into_inner().is_empty());
+}
+
+/// Returns the result of a run of the service `Places` over `input` in `form`, and the output.
+fn counted(alloc: Global, form: Form, input: &[u8]) -> (Result<u64, RunFault>, Vec<u8>) {
+    let mut reader = Watched::new(input);
+    let mut writer = Watched::new(Vec::new(alloc));
+    let found = run_messages(
+        alloc,
+        form,
+        Limits::usual(),
+        Places,
+        &mut reader,
+        &mut writer,
+    );
+    (found, writer.into_inner())
+}
+
+/// A run ends with the outcome of its service after the last message, or with the fault of its service.
+#[test]
+fn a_run_from_the_first_message_to_the_result(rt: HostRuntime) {
+    let (three, text) = counted(rt.alloc(), Form::Stream, &STREAM);
+    assert!(rt; three == Ok(3) && text.as_slice() == &PLACES);
+    let (unpacked, text) = counted(rt.alloc(), Form::Packed, &PACKED);
+    assert!(rt; unpacked == Ok(3) && text.as_slice() == &PLACES);
+    let (cut, text) = counted(rt.alloc(), Form::Stream, &STREAM[..31]);
+    let fault = RunFault::Refused(place(1), Refusal::Frame(FrameFault::Cut));
+    assert!(rt; cut == Err(fault) && text.as_slice() == &PLACES[..3]);
+    let (bare, text) = counted(rt.alloc(), Form::Bare, &STREAM[..9]);
+    let fault = RunFault::Refused(place(0), Refusal::Bare(BareFault::NotWhole(9)));
+    assert!(rt; bare == Err(fault) && text.is_empty());
 }

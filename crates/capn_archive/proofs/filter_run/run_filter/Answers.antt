@@ -1,17 +1,20 @@
-use Rattle.std.proofs.Common.{refl}
-use Rattle.capn_archive.specs.FilterRun.{filter_finish, filter_fold, first_run}
-use Rattle.capn_archive.proofs.ToldAlone.{filter_alone}
-use Rattle.capn_archive.proofs.Finishes.{finished_done, finished_stopped}
+use Rattle.std.proofs.Common.{subst}
+use Rattle.capn_words.specs.Watched.{inner_of, has_failed}
+use Rattle.capn_serve.specs.Finish.{Ends}
+use Rattle.capn_serve.specs.StreamRun.{first_run}
+use Rattle.capn_serve.proofs.shared.Finishes.{finished}
+use Rattle.capn_archive.specs.FilterRun as filters
+use Rattle.capn_archive.specs.declared.filter_service.FilterService.{FilterService}
+use Rattle.capn_archive.proofs.Faithful.{filter_faithful}
 use Rattle.capn_archive.proofs.filter_run.run_filter.Goals as goal
 
-pub returns-in-Ok : goal.returns-in-Ok
-returns-in-Ok g c =
-    finished_done (filter_fold c.args.order) (first_run c.args.order) filter_finish c.args.order.form _ _ _ _ _ _
-    c.serve_messages.new.run (c.in-Ok.ensures (first_run c.args.order) c.first_run-run.ensures) refl c.outcome_of.result
-    c.outcome_of.ensures
-
-pub returns-in-Err : goal.returns-in-Err
-returns-in-Err g c =
-    finished_stopped (filter_fold c.args.order) (first_run c.args.order) filter_finish c.args.order.form
-    (filter_alone c.args.order) _ _ _ _ _ _ c.in-Err.stopped c.serve_messages.new.run
-    (c.in-Err.ensures (first_run c.args.order) c.first_run-run.ensures) c.fault_of.result c.fault_of.ensures
+pub returns : goal.returns
+returns g c =
+    let order = c.args.order in
+    finished (filters.filter_fold order) (filters.first_run order) filters.filter_finish (filter_faithful order)
+    order.form _ _ _ _ _ _ c.run_messages.result
+    (subst (λ (s : FilterService). Ends (filters.filter_fold order) (first_run s) filters.filter_finish order.form
+    (g.R.Read.remaining (inner_of c.args.reader.now)) (g.R.Read.remaining (inner_of c.run_messages.new.reader))
+    (g.W.Write.contents (inner_of c.args.writer.now)) (g.W.Write.contents (inner_of c.run_messages.new.writer))
+    (has_failed c.run_messages.new.reader) (has_failed c.run_messages.new.writer) c.run_messages.result)
+    c.new-service.ensures c.run_messages.ensures)

@@ -1,15 +1,22 @@
-use Rattle.std.proofs.Common.{Option, ap, ◌∙◌}
-use Rattle.capn_serve.specs.declared.skipped.SkippedSoFar.{SkippedSoFar}
-use Rattle.capn_explain.specs.RefusedRun.{answer_by}
-use Rattle.capn_explain.specs.Reports.{skipped_in}
-use Rattle.capn_explain.proofs.Ended.{explained_refused}
+use Rattle.std.proofs.Common.{◌∙◌, ap, subst}
+use Rattle.capn_words.specs.Watched.{inner_of, has_failed}
+use Rattle.capn_serve.specs.Finish.{Ends}
+use Rattle.capn_serve.specs.StreamRun as runs
+use Rattle.capn_serve.proofs.shared.Finishes.{finished}
+use Rattle.capn_explain.specs.ExplainRun.{explain_fold, first_run}
+use Rattle.capn_explain.specs.RefusedRun.{refused_finish}
+use Rattle.capn_explain.specs.Reports.{Reporting, each_of, first_reporting}
+use Rattle.capn_explain.proofs.Faithful.{refused_faithful}
 use Rattle.capn_explain.proofs.refused_run.run_explain_refused.Goals as goal
 
 pub returns : goal.returns
 returns g c =
-    let run = c.explain_messages-end.new.run in
-    let counted = c.skipped_in.ensures ∙ ap skipped_in c.outcome.ensures in
-    explained_refused c.args.order c.each_of-order.result c.each_of-order.ensures _ _ _ _ _ _
-    c.explain_messages-end.result run c.answer_by.result c.explain_messages-end.ensures
-    (c.answer_by.ensures
-    ∙ ap (λ (s : Option SkippedSoFar). answer_by s run.at.index c.explain_messages-end.result) counted)
+    let refused = c.args.order in
+    let order = each_of refused in
+    finished (explain_fold order) (first_run order) refused_finish (refused_faithful order) refused.form _ _ _ _ _ _
+    c.run_messages.result
+    (subst (λ (s : Reporting). Ends (explain_fold order) (runs.first_run s) refused_finish refused.form
+    (g.R.Read.remaining (inner_of c.args.reader.now)) (g.R.Read.remaining (inner_of c.run_messages.new.reader))
+    (g.W.Write.contents (inner_of c.args.writer.now)) (g.W.Write.contents (inner_of c.run_messages.new.writer))
+    (has_failed c.run_messages.new.reader) (has_failed c.run_messages.new.writer) c.run_messages.result)
+    (c.new-reporter.ensures ∙ ap first_reporting c.each_of.ensures) c.run_messages.ensures)
