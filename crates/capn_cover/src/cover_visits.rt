@@ -12,8 +12,9 @@ ghost use Rattle.capn_cover.specs.Covers.{covers, pad_run};
 ghost use Rattle.capn_cover.specs.inner.Laid.{laid, HasRoom, Leads, cover_below, cover_of};
 
 use crate::covered::{Covered, Role};
-use crate::object_words::{cover_content, cover_run};
+use crate::object_words::cover_content;
 use crate::starts::number_of;
+use crate::word_runs::cover_run;
 use capn_walk::{Shape, Target, resolve};
 use capn_words::{Place, Pointer, Space, Width, split};
 

@@ -20,8 +20,10 @@ mod cut_words;
 mod kept;
 mod message_cover;
 mod object_words;
+mod one_word;
 mod part;
 mod starts;
+mod word_runs;
 
 pub use covered::{Covered, Role};
 pub use message_cover::{SurveyedCover, cover, cover_surveyed};

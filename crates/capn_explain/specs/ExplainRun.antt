@@ -1,4 +1,5 @@
--- A run that explains messages: its closing text and its ending. A run that explains one message. (Our own.)
+-- A run that explains messages: its closing text and its ending. All that a run does that explains one message. (Our
+-- own.)
 use Rattle.std.specs.Prelude.{◌≡◌, ℕ, List, [], ◌++◌, Bool, Option, Some, None, Result, Ok, Err, codes, refl}
 use Rattle.std.specs.Fmt.{digits}
 use Rattle.std.specs.Io.KnownBytes.{Appends}

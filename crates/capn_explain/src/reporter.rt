@@ -28,8 +28,8 @@ use std::marker::Model;
 /// and an empty line. The service counts the messages that it has explained.
 ///
 /// A refused message does not end the loop with a fault. Without a number the service also keeps the account of an
-/// accepted first message, until another message is served. If an allocation was refused for that account, the service
-/// keeps this fact.
+/// accepted first message, until a later message is accepted, or is refused and counted. If an allocation was refused
+/// for that account, the service keeps this fact.
 #[derive(Drop)]
 pub struct Reporter<A: Allocator = Global> {
     alloc: A,
@@ -113,8 +113,8 @@ impl<B: Allocator + Copy> Reporter<B> {
         &self.lines
     }
 
-    /// Returns the account of the first message, if that message is accepted, no later message has been served, and
-    /// the order has no number.
+    /// Returns the account of the first message, if that message is accepted, no later message has been accepted or
+    /// counted, and the order has no number.
     pub(crate) fn first(&self) -> &Option<Result<Account<B>, Memory>>
         ensures { spec.lines_first result.now ≡ self.now.first }
     {

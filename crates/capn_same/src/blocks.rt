@@ -67,7 +67,7 @@ fn is_next_block_equal(one: &mut PaidBytes<'_>, two: &mut PaidBytes<'_>) -> bool
 }
 
 /// Tests whether the `blocks` blocks of eight words of `a` from `at` on equal the `blocks` blocks of `b` from `beside`
-/// on. A number of 0 blocks costs no call.
+/// on. For 0 blocks, nothing is called.
 #[inline(always)]
 pub fn are_equal_blocks<S: Space, T: Space, L: Ledger, M: Ledger>(
     a: &CountedSpace<'_, S, L>,
@@ -93,7 +93,7 @@ pub fn are_equal_blocks<S: Space, T: Space, L: Ledger, M: Ledger>(
     are_equal_in_blocks(a, at, b, beside, blocks, first, second)
 }
 
-/// Tests the same as [`are_equal_blocks`], with a turn of a loop for each block and not for each word.
+/// Tests what [`are_equal_blocks`] tests, with a turn of a loop for each block and not for each word.
 ///
 /// All words are counted as read at the start, although the comparison ends at the first difference.
 #[inline(never)]

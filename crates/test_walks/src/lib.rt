@@ -12,6 +12,8 @@ mod counted_bytes;
 #[cfg(test)]
 mod counted_calls;
 #[cfg(test)]
+mod counted_steps;
+#[cfg(test)]
 mod counted_walks;
 #[cfg(test)]
 mod depths;
@@ -25,6 +27,8 @@ mod measures;
 mod shared_lists;
 #[cfg(test)]
 mod steps;
+#[cfg(test)]
+mod surveyed_layouts;
 #[cfg(test)]
 mod tally;
 #[cfg(test)]

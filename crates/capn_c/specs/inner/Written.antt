@@ -10,7 +10,7 @@ use Rattle.capn_canon.specs.Theorem.{RefusedInto, WrittenInto}
 use Rattle.capn_canon.specs.declared.length.CanonicalLength.{CanonicalLength}
 use Rattle.capn_canon.specs.declared.message_refusal.IntoRefusal.{IntoRefusal}
 
--- The clauses of `canonical_into` hold of the result `r` for `message`. The buffer was `old`, and is `new`.
+-- Clauses of `canonical_into`, which hold of the result `r` for `message`. The buffer was `old`, and is `new`.
 pub record IsWrittenInto (message : List (List ℕ)) (limits : Bounds) (old new : List ℕ)
     (r : Result CanonicalLength IntoRefusal) : Type 0 where
   pub is_message : IsMessage message
