@@ -1,9 +1,9 @@
 -- The clauses of `capn_unpack_some` allow one status and one report for each input and each length of the buffer, and
 -- status 8. (For `decision.rt`.)
-use Rattle.std.proofs.Common.{◌≡◌, ◌≢◌, ℕ, ◌+◌, ◌*◌, ◌≤◌, List, [], ◌++◌, length, take, drop, refl, ap, sym, subst, ◌∙◌}
+use Rattle.std.proofs.Common.{◌≡◌, ◌≢◌, ℕ, ◌*◌, List, [], ◌++◌, length, take, drop, refl, ap, sym, subst, ◌∙◌}
 use Rattle.std.proofs.Common.{arith, append-nil}
 use Rattle.std.proofs.lemmas.List.{take-append-drop, length-take-le, length-drop}
-use Rattle.capn_pack.specs.Packed.{Packs, contents, texts, word_count}
+use Rattle.capn_pack.specs.Packed.{Packs, contents, texts}
 use Rattle.capn_pack.specs.UnpackRefusal.{IsCut, IsTooLong, IsUnpackRefused, Stands}
 use Rattle.capn_pack.specs.WholeGroups.{UnpacksSome}
 use Rattle.capn_pack.specs.declared.fault.UnpackFault.{UnpackFault}

@@ -1,5 +1,5 @@
 -- The figures of a message are also the figures of what is read as that message. (For `message_figures.rt`.)
-use Rattle.std.proofs.Common.{◌≡◌, inl, inr, ℕ, List, refl, sym, subst, Result, Err, IfOk, IfErr}
+use Rattle.std.proofs.Common.{inl, inr, ℕ, List, refl, sym, subst, Result, Err}
 use Rattle.std.proofs.lemmas.Result.{IfOk-weaker, IfErr-weaker}
 use Rattle.capn_walk.specs.Limits.{Bounds}
 use Rattle.capn_canon.specs.Answered.{IsAnswered}

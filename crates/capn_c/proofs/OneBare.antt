@@ -1,5 +1,5 @@
 -- The survey that says whether a message of one segment is canonical. (For `figures_counted`.)
-use Rattle.std.proofs.Common.{◌≡◌, ◌↔◌, ℕ, List, length, ap, sym, ◌∙◌}
+use Rattle.std.proofs.Common.{◌↔◌, ℕ, List, length, ap, sym, ◌∙◌}
 use Rattle.capn_words.specs.Message.{segment_at, bytes}
 use Rattle.capn_walk.specs.Accepted.{root}
 use Rattle.std.specs.Bool.{IsTrue}

@@ -37,6 +37,7 @@ pub fn count_words<S: Space, L: Ledger>(
 }
 
 /// Surveys the message `space`, which is not canonical, within `limits`, and counts reads and turns in `reads`.
+#[inline(always)]
 fn measure_other<S: Space, L: Ledger>(
     space: &CountedSpace<'_, S, L>,
     limits: Limits,

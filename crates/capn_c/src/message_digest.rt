@@ -14,11 +14,11 @@ ghost use Rattle.capn_canon.specs.declared.refusal.Refusal.TheVariants as refusa
 ghost use Rattle.capn_stream.specs.Segments.{message_of};
 ghost use Rattle.capn_c.specs.Held.{AnswersHeld, IsRefusedHeld};
 ghost use Rattle.capn_c.specs.MadeBytes.{MayNeedToMake};
-ghost use Rattle.capn_c.specs.inner.Told.{IsDigestTold, IsHashTold};
+ghost use Rattle.capn_c.specs.inner.Told.{IsDigestTold, IsFoundTold, found_bytes, found_price};
 
 use crate::held_message::run_held;
 use capn_canon::{
-    Form, MessageTask, Refusal, canonical_of_counted, run_task, survey_canonical_counted,
+    Canonical, Form, MessageTask, Refusal, canonical_of_counted, run_task, survey_canonical_counted,
 };
 use capn_target::counted::{Asked, CountedSpace, CountedTask, Reads};
 use capn_walk::Limits;
@@ -36,13 +36,13 @@ pub struct Digested {
     pub paid: u32,
 }
 
-/// What is found before the bytes of a message are hashed in place.
+/// Where the canonical bytes of a message are found.
 #[derive(Drop)]
-pub enum Hashed {
-    /// The bytes of the message are canonical, and have to be hashed. The number is the price of the message.
+pub enum Found {
+    /// The message is canonical, so the bytes are those of its only segment. The number is the price of the message.
     InPlace(u32),
-    /// The message is not canonical. Its canonical bytes were made and hashed.
-    Made(Digested),
+    /// The message is not canonical, so the bytes were made.
+    Made(Canonical),
 }
 
 /// Returns the price of the message `space` of one segment if the bytes of the segment are canonical, and otherwise
@@ -79,7 +79,6 @@ fn price_of_own<S: Space, L: Ledger>(
     limits: Limits,
     reads: &mut Reads<L>,
 ) -> Option<u32>
-    ensures one { IfSome result (λ _. length space.now ≡ 1) }
     ensures found { IfSome result (λ paid.
         AnswersMessage space.now limits (bytes_of (segment_at space.now 0)) paid) }
     ensures other { result ≡ None → (v : Value) → IsValueOf space.now limits v → IsCanonicalOf space.now v → ⊥ }
@@ -92,46 +91,42 @@ fn price_of_own<S: Space, L: Ledger>(
     }
 }
 
-/// Tests whether the message `space` is canonical. If it is not, makes its canonical bytes and hashes them. Reads and
-/// turns of loops are counted in `reads`.
+/// Tests whether the message `space` is canonical, and otherwise makes its canonical bytes. Reads and turns of loops
+/// are counted in `reads`.
 #[inline(always)]
-fn hash_counted<S: Space, L: Ledger>(
+fn find_counted<S: Space, L: Ledger>(
     alloc: Global,
     space: &CountedSpace<'_, S, L>,
     limits: Limits,
     reads: &mut Reads<L>,
-) -> Result<Hashed, Refusal>
-    ensures told { IsHashTold space.now limits result }
+) -> Result<Found, Refusal>
+    ensures told { IsFoundTold space.now limits result }
     ensures reads { reads.new ≤ reads.old + 67 * (limits.budget + 1) }
 {
     let _budget = limits.budget();
     match price_of_own(space, limits, reads) {
-        Some(paid) => Ok(Hashed::InPlace(paid)),
+        Some(paid) => Ok(Found::InPlace(paid)),
         None => {
             let canonical = canonical_of_counted(alloc, space, limits, reads)?;
-            let digest = Sha256::digest(canonical.bytes.as_slice());
-            Ok(Hashed::Made(Digested {
-                digest,
-                paid: canonical.paid,
-            }))
+            Ok(Found::Made(canonical))
         }
     }
 }
 
-/// The task of `hash_message`: finds whether the message that it is run on is canonical, or hashes its canonical bytes.
+/// The task of `find_bytes`: finds the canonical bytes of the message that it is run on.
 #[derive(Drop)]
-struct HashTask {
+struct FindTask {
     alloc: Global,
     limits: Limits,
 }
 
-impl CountedTask for HashTask {
-    type Told = Result<Hashed, Refusal>;
+impl CountedTask for FindTask {
+    type Told = Result<Found, Refusal>;
 
     ghost use Rattle.std.specs.Prelude.{◌+◌, ◌*◌};
-    ghost use Rattle.capn_c.specs.inner.Told.{IsHashTold};
+    ghost use Rattle.capn_c.specs.inner.Told.{IsFoundTold};
 
-    ghost tells = { λ t m r. IsHashTold m t.limits r };
+    ghost tells = { λ t m r. IsFoundTold m t.limits r };
 
     ghost most = { λ t. 67 * (t.limits.budget + 1) };
 
@@ -140,33 +135,54 @@ impl CountedTask for HashTask {
         self,
         space: &CountedSpace<'_, S, L>,
         reads: &mut Reads<L>,
-    ) -> Result<Hashed, Refusal> {
-        hash_counted(self.alloc, space, self.limits, reads)
+    ) -> Result<Found, Refusal> {
+        find_counted(self.alloc, space, self.limits, reads)
     }
 }
 
-/// Tests whether the message `space` is canonical. If it is not, makes its canonical bytes and hashes them. A message
-/// without canonical bytes is refused.
+/// Tests whether the message `space` is canonical, and otherwise makes its canonical bytes. A message without canonical
+/// bytes is refused.
 ///
 /// `space` is any [`Asked`], so the clause `work` bounds how often the message is read.
 #[inline(always)]
-fn hash_message<M: Asked>(alloc: Global, space: M, limits: Limits) -> Result<Hashed, Refusal>
+fn find_bytes<M: Asked>(alloc: Global, space: M, limits: Limits) -> Result<Found, Refusal>
     // `space` must allow 67 * (budget + 1) reads and turns of loops, and one more to start the count.
     requires work { M.allows space (67 * (limits.budget + 1) + 1) }
-    ensures { IsHashTold (M.message space) limits result }
+    ensures { IsFoundTold (M.message space) limits result }
 {
-    space.ask(HashTask { alloc, limits })
+    space.ask(FindTask { alloc, limits })
 }
 
-/// Returns the digest of the bytes of the only segment of the message `space`. Each byte is read once.
+/// Returns the bytes of the first segment of the message `space`.
 #[inline(always)]
-fn digest_of_segment<S: Space>(space: &S) -> [u8; 32]
-    requires one { length (S.message space.now) ≡ 1 }
-    ensures { result ≡ sha256 (bytes_of (segment_at (S.message space.now) 0)) }
+fn first_bytes<S: Space>(space: &S) -> &[u8]
+    ensures { result.now ≡ bytes_of (segment_at (S.message space.now) 0) }
 {
     let _segments = space.segments();
     let words = space.words(0).unwrap_or(0);
-    Sha256::digest(space.bytes(Place::ROOT, 8 * words as usize))
+    space.bytes(Place::ROOT, 8 * words as usize)
+}
+
+/// Returns the canonical bytes of the message `space`, which are `found`.
+#[inline(always)]
+fn bytes_found<'a, S: Space>(space: &'a S, found: &'a Found) -> &'a [u8]
+    ensures { result.now ≡ found_bytes (S.message space.now) found.now }
+{
+    match found {
+        Found::InPlace(_) => first_bytes(space),
+        Found::Made(canonical) => canonical.bytes.as_slice(),
+    }
+}
+
+/// Returns the price of the message whose canonical bytes are `found`.
+#[inline(always)]
+fn price_found(found: &Found) -> u32
+    ensures { result ≡ found_price found.now }
+{
+    match found {
+        Found::InPlace(paid) => *paid,
+        Found::Made(canonical) => canonical.paid,
+    }
 }
 
 /// Returns the digest of the canonical bytes of the message `space`. The bytes of a canonical message are hashed in
@@ -175,13 +191,11 @@ fn digest_of_segment<S: Space>(space: &S) -> [u8; 32]
 fn digest_of<S: Space>(alloc: Global, space: &S, limits: Limits) -> Result<Digested, Refusal>
     ensures { IsDigestTold (S.message space.now) limits result }
 {
-    match hash_message(alloc, space, limits)? {
-        Hashed::InPlace(paid) => Ok(Digested {
-            digest: digest_of_segment(space),
-            paid,
-        }),
-        Hashed::Made(digested) => Ok(digested),
-    }
+    let found = find_bytes(alloc, space, limits)?;
+    Ok(Digested {
+        digest: Sha256::digest(bytes_found(space, &found)),
+        paid: price_found(&found),
+    })
 }
 
 /// The task of `digest_in` and `digest_held`, which makes canonical bytes only if the message is not canonical.

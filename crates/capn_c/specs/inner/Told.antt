@@ -1,5 +1,5 @@
 -- The results of the private functions for one message or two messages.
-use Rattle.std.specs.Prelude.{IsTrue, ◌≡◌, ◌≢◌, ◌↔◌, ◌≤◌, ℕ, Bool, List, None, length}
+use Rattle.std.specs.Prelude.{IsTrue, ◌≡◌, ◌≢◌, ◌↔◌, ◌≤◌, ℕ, Bool, List, None}
 use Rattle.std.specs.Prelude.{Result, IfOk, IfErr, IsOk, IsErrOf, MatchResult}
 use Rattle.sha2.specs.Sha256.{sha256}
 use Rattle.capn_words.specs.Message.{bytes, segment_at}
@@ -23,8 +23,8 @@ use Rattle.capn_c.specs.Figures.{AreFigures}
 use Rattle.capn_c.specs.Shown.{ShowsMessage}
 use Rattle.capn_c.specs.declared.figures.CapnFigures.{CapnFigures}
 use Rattle.capn_c.specs.declared.message_digest.Digested.{Digested}
-use Rattle.capn_c.specs.declared.message_digest.Hashed.{Hashed}
-use Rattle.capn_c.specs.declared.message_digest.Hashed.TheVariants as hashed
+use Rattle.capn_c.specs.declared.message_digest.Found.{Found}
+use Rattle.capn_c.specs.declared.message_digest.Found.TheVariants as found
 use Rattle.capn_c.specs.declared.message_text.ShownText.{ShownText}
 
 -- If `r` is `Ok`, it has the text and the survey of `message`. If `r` is an `Err`, its refusal is true of `message`
@@ -39,27 +39,24 @@ pub record IsTextTold (message : List (List ℕ)) (limits : Bounds) (style : Sty
   pub bounded : MatchResult r (λ x. IsBounded limits.budget x.survey.paid x.survey.visits)
       (λ e. IsPaidWithin limits.budget e)
 
--- `InPlace` has the price of `message`, whose only segment has its canonical bytes. `Made` has the digest of the
--- canonical bytes of `message`, and the price.
-abbrev pub IsHashed : List (List ℕ) → Bounds → Hashed → Type 0
-IsHashed message limits (hashed.InPlace price) =
-    (length message ≡ 1) × AnswersMessage message limits (bytes (segment_at message 0)) price
-IsHashed message limits (hashed.Made d) =
-    (text : List ℕ) × AnswersMessage message limits text d.paid × (d.digest ≡ sha256 text)
+-- The canonical bytes of `message` that were found: the bytes of its first segment, or bytes that were made.
+abbrev pub found_bytes : List (List ℕ) → Found → List ℕ
+found_bytes message (found.InPlace price) = bytes (segment_at message 0)
+found_bytes message (found.Made c) = c.bytes.items
 
--- the price that is found before a message is hashed in place
-abbrev pub hashed_price : Hashed → ℕ
-hashed_price (hashed.InPlace price) = price
-hashed_price (hashed.Made d) = d.paid
+-- the price of the message whose canonical bytes were found
+abbrev pub found_price : Found → ℕ
+found_price (found.InPlace price) = price
+found_price (found.Made c) = c.paid
 
--- If `r` is `Ok`, `IsHashed` holds of it. If `r` is an `Err`, its refusal is true of `message` (`IsRefusedMessage`),
--- and is `Memory` only if `message` has canonical bytes but isn't canonical.
-pub record IsHashTold (message : List (List ℕ)) (limits : Bounds) (r : Result Hashed Refusal) : Type 0 where
-  pub found : IfOk r (λ h. IsHashed message limits h)
+-- If `r` is `Ok`, it has the canonical bytes of `message` and the price. If `r` is an `Err`, its refusal is true of
+-- `message` (`IsRefusedMessage`), and is `Memory` only if `message` has canonical bytes but isn't canonical.
+pub record IsFoundTold (message : List (List ℕ)) (limits : Bounds) (r : Result Found Refusal) : Type 0 where
+  pub found : IfOk r (λ f. AnswersMessage message limits (found_bytes message f) (found_price f))
   pub refused : IfErr r (λ e. IsRefusedMessage message limits e)
   pub memory : IsErrOf r refusals.Memory → MayNeedBytes message limits
   pub made : IsErrOf r refusals.Memory → (v : Tree) → IsValueOf message limits v → IsCanonicalOf message v → ⊥
-  pub bounded : MatchResult r (λ h. hashed_price h ≤ limits.budget) (λ e. IsPaidWithin limits.budget e)
+  pub bounded : MatchResult r (λ f. found_price f ≤ limits.budget) (λ e. IsPaidWithin limits.budget e)
 
 -- If `r` is `Ok`, it has the digest of the canonical bytes of `message` and the price. If `r` is an `Err`, its refusal
 -- is true of `message` (`IsRefusedMessage`), and is `Memory` only if `message` has canonical bytes but isn't canonical.

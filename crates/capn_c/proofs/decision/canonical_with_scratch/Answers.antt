@@ -1,7 +1,6 @@
 -- The clauses of `capn_canonical_with_scratch` allow one status and one report for a number of words of scratch and a
 -- length of the buffer.
-use Rattle.std.proofs.Common.{ℕ, List, length, refl, ap, sym, subst, ◌∙◌}
-use Rattle.capn_canon.specs.Denotes.{Answers}
+use Rattle.std.proofs.Common.{ℕ, length, refl, sym, subst, ◌∙◌}
 use Rattle.capn_abi.specs.Calls.{bounds_of, form_named}
 use Rattle.capn_c.specs.Lent.{LacksScratch}
 use Rattle.capn_c.proofs.DecidedRoom.{delivers_room}
