@@ -37,6 +37,7 @@ fn may_be_escaped(byte: u8) -> bool
 /// 4,096, and a byte that begins a code point of several bytes ends the run. Takes no memory.
 fn bare_run(bytes: &[u8]) -> usize
     ensures within { result ≤ length bytes.now }
+    ensures short { result ≤ 4096 }
     ensures bare { spec.escapes bytes.now ≡ take result bytes.now ++ spec.escapes (drop result bytes.now) }
 {
     for i in 0..bytes.len() {
@@ -55,6 +56,7 @@ fn bare_run(bytes: &[u8]) -> usize
 pub fn split_bare(bytes: &[u8]) -> (&[u8], &[u8])
     ensures written { spec.escapes bytes.now ≡ result.0.now ++ spec.escapes result.1.now }
     ensures whole { length result.0.now + length result.1.now ≡ length bytes.now }
+    ensures short { length result.0.now ≤ 4096 }
 {
     bytes.split_at(bare_run(bytes))
 }
