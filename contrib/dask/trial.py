@@ -61,8 +61,8 @@ def by_command(paths: list[str]) -> tuple[bytes, str]:
 
 
 def is_named(paths: list[str]) -> bool:
-    """Runs the command dedupe.py on a truncated file. Returns whether it names this file, keeps the result of an
-    earlier run, and leaves no other file beside the result."""
+    """Runs the command dedupe.py on a truncated file. Returns whether the command names this file, keeps the result of
+    an earlier run, and leaves no other file beside the result."""
     before = Path("framed").read_bytes()
     cut = Path("cut.messages")
     cut.write_bytes(Path(paths[0]).read_bytes()[:-8])
