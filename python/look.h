@@ -77,8 +77,8 @@ typedef struct {
     size_t size;
 } capn_packed_one;
 
-/* The same of one message; the answer is how many packed bytes it has, or 0. If it is cut, this goes
- * on with a text that begins with the one before, and unpacks nothing twice. */
+/* Goes on to look at one message. Returns the number of its packed bytes, or 0. If the message is cut, the next call
+ * gets a text that begins with the present one, and unpacks nothing twice. */
 static size_t capn_look_on(const uint8_t *text, size_t size, capn_packed_one *one) {
     capn_report *const report = &one->report;
     for (;;) {
@@ -91,7 +91,7 @@ static size_t capn_look_on(const uint8_t *text, size_t size, capn_packed_one *on
             if (one->status == CAPN_OK) one->status = CAPN_PACKED_CUT;
             return 0;
         }
-        /* What a frame of one segment needs is in its table, which is often that of the message before. */
+        /* The segment table of one segment says how long the frame is. It is often the table of the message before. */
         if (one->size > 8 && memcmp(one->out, one->table, 8) == 0) {
             if (one->got == one->size) break;
             one->length = one->size;
@@ -114,7 +114,7 @@ static size_t capn_look_on(const uint8_t *text, size_t size, capn_packed_one *on
     return one->take;
 }
 
-/* The same of a text at whose start the message begins. */
+/* Looks at a text at whose start the message begins. */
 static size_t capn_look_at_one(const uint8_t *text, size_t size, capn_packed_one *one) {
     one->got = one->take = 0;
     one->length = 8;
@@ -179,8 +179,8 @@ static void capn_pipe_end(capn_pipe *pipe) {
     pipe->second[0] = pipe->second[1] = -1;
 }
 
-/* What a pipe has, at most so many bytes, which stay in it: they are put into the second pipe too, and all read from
- * that. The answer is how many they are, or 0, if there are none, or the system can't. */
+/* Copies at most `most` bytes of a pipe into `seen`. The bytes stay in the pipe: they are also put into the second
+ * pipe, and read from there. Returns their number, or 0 if there are none or if the system can't do this. */
 static size_t capn_look_into(int file, capn_pipe *pipe, size_t most, unsigned how) {
     size_t have = 0;
     if (pipe->second[0] < 0 && pipe2(pipe->second, O_CLOEXEC) != 0) return 0;
@@ -196,7 +196,7 @@ static size_t capn_look_into(int file, capn_pipe *pipe, size_t most, unsigned ho
     return have;
 }
 
-/* The same of bytes that are there now. */
+/* Copies the bytes of a pipe that are there now, without waiting. */
 static size_t capn_peek(int file, capn_pipe *pipe) {
     return capn_look_into(file, pipe, sizeof pipe->seen, SPLICE_F_NONBLOCK);
 }

@@ -34,7 +34,7 @@ class SourceDistribution(sdist):
 
     def make_release_tree(self, base_dir, files):
         super().make_release_tree(base_dir, files)
-        # What builds the module says where the library is.
+        # binding.py, which builds the module, says where the library is.
         binding = runpy.run_path(str(HERE / "binding.py"))
         copied = {"capn.h": binding["HEADER"], "libcapn.a": binding["ARCHIVE"]}
         for name, path in {**copied, **{name: place(name) for name in LICENCES}}.items():

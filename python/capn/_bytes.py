@@ -11,13 +11,13 @@ if TYPE_CHECKING:
 elif sys.version_info >= (3, 12):
     from collections.abc import Buffer
 else:
-    # What has a buffer: Python has no name for that before 3.12.
+    # Before version 3.12, Python has no name for the type of objects that have a buffer.
     Buffer = Any
 
 __all__ = ["Buffer", "copied", "no_buffer", "taken"]
 
 _from_buffer = ffi.from_buffer
-# From how many bytes on a view of `bytes` is read in place: a copy of fewer is made sooner.
+# A view of `bytes` is read in place if it has at least this number of bytes. Copying fewer bytes is faster.
 _SHORT = 4096
 
 

@@ -10,11 +10,12 @@ from ._capn import ffi, lib
 from ._limits import Limits
 from ._refusal import Refusal, failure, failure_of_words, let_go, refused
 
-# How the bytes of a message are written, as `capn --form` has it.
+# The forms in which the bytes of a message can be written. The words are those of `capn --form`.
 Form = Literal["stream", "packed", "bare"]
 _FORMS: dict[str, int] = {"stream": lib.CAPN_STREAM, "packed": lib.CAPN_PACKED, "bare": lib.CAPN_BARE}
 _USUAL = Limits()
-# What `capn unpack` takes: the words of the usual limits, and those of the longest segment table.
+# The greatest number of words that `capn unpack` writes: the words of a message by the default limits, and the words of
+# the longest segment table.
 _TABLE_WORDS = 2049
 _USUAL_WORDS = 8388608 + _TABLE_WORDS
 _new, _report_type = ffi.new, ffi.typeof("capn_report *")
@@ -32,12 +33,13 @@ _digests: list[tuple[Any, Any]] = []
 
 
 class Checked(NamedTuple):
-    """What reading a valid message costs."""
+    """The cost of reading a valid message."""
 
     paid: int
     """The cost in words."""
     visits: int
-    """How many pointers are followed, each as often as it is met. The root pointer is one, and null pointers count."""
+    """The number of pointers that are followed. A pointer counts each time that it is met. The root pointer and null
+    pointers count, too."""
 
 
 class Surveyed(NamedTuple):
@@ -46,11 +48,12 @@ class Surveyed(NamedTuple):
     words: int
     """The words of all segments."""
     segments: int
-    """How many segments it has."""
+    """The number of segments."""
     paid: int
     """The cost of reading it, in words."""
     visits: int
-    """How many pointers are followed, each as often as it is met. The root pointer is one, and null pointers count."""
+    """The number of pointers that are followed. A pointer counts each time that it is met. The root pointer and null
+    pointers count, too."""
     depth: int
     """The least nesting limit within which it is valid; 0 for a null root."""
     capability: int | None
@@ -91,7 +94,7 @@ def _laid_out(limits: Limits) -> Any:
 
 
 def _taken(data: Buffer, form: str, limits: Limits, in_place: bool) -> tuple[int, Any, Any]:
-    """What the library is given of the arguments: the number of the form, the bytes, the limits."""
+    """Returns the arguments as the library takes them: the number of the form, the bytes, and the limits."""
     # The bytes come last: an argument that is wrong locks no buffer.
     try:
         number, bounds = _FORMS[form], limits._laid_out  # type: ignore[attr-defined]
@@ -103,8 +106,9 @@ def _taken(data: Buffer, form: str, limits: Limits, in_place: bool) -> tuple[int
 def _filled(
     call: Callable[[Any, int, Any], int], room: int, given: Sequence[Any], fault: Callable[[int, Any], Exception]
 ) -> bytes:
-    """What a call writes: into a buffer of this size or, if the result doesn't fit, of the length that it reports; or
-    the fault that it is. After an exception nothing holds the bytes that the call was given."""
+    """Makes a call that writes into a buffer, and returns the written bytes. The buffer has `room` bytes at first. If
+    the result is longer, it is written into a buffer of the length that the call reports. If the call fails, raises
+    what `fault` returns. After an exception, nothing holds the bytes that were given to the call."""
     try:
         report, room = _report(), min(room, _MOST_ROOM)
         out = _room(_room_type, room)
@@ -125,7 +129,8 @@ def _filled(
 
 
 def _most_bytes(size: int, number: int, limits: Limits) -> int:
-    """How many bytes a message of these limits has at most, unpacked, in so many bytes of a form."""
+    """Returns the greatest number of bytes that a message can have after unpacking. The message has `size` bytes in the
+    form `number`, and is within the limits."""
     unpacked = 1024 * size if number == lib.CAPN_PACKED else size
     return min(unpacked, 8 * (limits.message_words + _TABLE_WORDS))
 
@@ -157,7 +162,7 @@ def survey(data: Buffer, form: Form = "stream", limits: Limits = _USUAL, *, in_p
 
 
 def _survey(data: Buffer, number: int, given: Any, bounds: Any) -> Surveyed:
-    """The same of what the library was given."""
+    """Returns the statistics of a message. The form, the bytes and the limits are as `_taken` returns them."""
     figures, report = _new(_figures_type), _report()
     status = lib.capn_survey(number, given, len(given), bounds, figures, report)
     if status != lib.CAPN_OK:
@@ -251,7 +256,7 @@ def is_canonical(
 
 
 def _is_canonical(data: Buffer, given: Any, bounds: Any) -> bool:
-    """The same of bare words, as the library was given them."""
+    """Returns whether bare words are canonical. The words and the limits are as the library takes them."""
     report = _report()
     status = lib.capn_is_canonical(given, len(given), bounds, report)
     if status not in (lib.CAPN_OK, lib.CAPN_NOT_CANONICAL):

@@ -40,7 +40,7 @@ class Departure:
     """The path from the root to the first capability, or to the pointer that the word is part of, as in
     `Refusal.way`."""
     count: int | None = None
-    """How many segments there are."""
+    """The number of segments."""
     index: int | None = None
     """The index of the capability."""
     byte: int | None = None
@@ -48,10 +48,10 @@ class Departure:
     word: int | None = None
     """The word in the message, a number below 2^64."""
     canonical_word: int | None = None
-    """The same word of the canonical bytes."""
+    """The word at the same place of the canonical bytes."""
     owner: Literal["pointer", "tag", "last word"] | None = None
-    """What the word is part of in the canonical bytes: it is the pointer at that path, or the tag or the last word of
-    the list that the pointer refers to. Not all bits of such a last word are elements."""
+    """The part of the canonical bytes that has the word: the pointer at that path, or the tag or the last word of the
+    list that the pointer refers to. Not all bits of such a last word are elements."""
 
     def __str__(self) -> str:
         if self.kind == "segments":
@@ -108,7 +108,7 @@ def _written(word: Any, is_pointer: bool) -> str:
 
 
 def _decoded(word: int) -> str:
-    """What a word says as a pointer."""
+    """Returns a text that describes a word as a pointer."""
     low, high = word & 0xFFFFFFFF, word >> 32
     offset = (low >> 2) - (low >> 31 << 30)
     if word == 0:

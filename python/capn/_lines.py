@@ -1,4 +1,4 @@
-"""What each word of a message is."""
+"""The lines of a message. They say what each word of the message is."""
 from __future__ import annotations
 
 from enum import IntEnum
@@ -15,12 +15,12 @@ from ._refusal import let_go, refused
 _lines_type = ffi.typeof("capn_line[]")
 # A line as the library lays it out.
 _LAID_OUT = _Layout("<Q10I")
-# How many lines there is room for at first: mostly enough for a small message.
+# The number of lines for which there is room at first. This is enough for most small messages.
 _FEW = 256
 
 
 class LineKind(IntEnum):
-    """What the words of a `Line` are."""
+    """The kind of the words of a `Line`."""
 
     POINTER = lib.CAPN_LINE_POINTER
     """A pointer that isn't null."""
@@ -48,18 +48,18 @@ class Line(NamedTuple):
     place: tuple[int, int]
     """The segment of the words, and the number of the first word in that segment."""
     words: int
-    """How many words there are, 1 or more."""
+    """The number of words, 1 or more."""
     times: int
-    """How often objects and landing pads cover each of the words; 0 for `LineKind.UNREACHED`."""
+    """The number of times that objects and landing pads cover each of the words. It is 0 for `LineKind.UNREACHED`."""
     slot: tuple[int, int] | None
     """The pointer to the object or landing pad that has the words: its segment, and its word in that segment. None for
     the root pointer, and for `LineKind.UNREACHED`."""
     cut: int
-    """How many of the words canonical bytes leave out."""
+    """The number of words that canonical bytes leave out."""
     not_zero: int
-    """How many of the words aren't zero."""
+    """The number of words that aren't zero."""
     kind: LineKind
-    """What the words are."""
+    """The kind of the words."""
     overlap: bool
     """Whether different objects or landing pads overlap in the words."""
     padding: bool

@@ -23,7 +23,7 @@ _FEW = 64
 _WIDTHS = (8, 16, 32, 64)
 # Of the bits of a number, the kind of a list of such numbers.
 _SIZES = {1: "bits", 8: "bytes", 16: "u16", 32: "u32", 64: "u64"}
-# What objects of some kinds have, and of others not.
+# The attributes that objects of some kinds have, and objects of other kinds don't have.
 _OF_KINDS = ("words", "slots", "word", "slot", "uint", "int", "float", "bool", "text", "view", "index")
 
 
@@ -46,7 +46,7 @@ class _Undecodable(Mismatch, UnicodeDecodeError):
 
 
 class Object:
-    """What a pointer refers to. Its `kind` is the word that `capn show` prints for it.
+    """The object that a pointer refers to. Its `kind` is the word that `capn show` prints for it.
 
     Two objects are equal if they have the same value, as their canonical bytes would: zero words and null pointers at
     the end of a struct make no difference. A comparison may read everything below an object. No object has a hash."""
@@ -105,7 +105,8 @@ class Object:
     if not TYPE_CHECKING:
 
         def __getattr__(self, name: str) -> NoReturn:
-            # What other kinds have is not here because of the message.
+            # If objects of other kinds have the attribute, it is the message that decides that this object lacks it. So
+            # the exception is a `Mismatch`.
             wrong = _Other if name in _OF_KINDS else AttributeError
             raise wrong(f"an object of class {type(self).__name__} has no {name}")
 
@@ -594,7 +595,7 @@ class Rows(List[Row]):
 
 
 Value = Union[Null, Struct, Voids, Bits, Bytes, Numbers, Pointers, Rows, Capability]
-"""What a pointer may refer to, told by its `kind` or its class."""
+"""An object that a pointer may refer to. Its `kind` or its class says which one it is."""
 
 _KINDS: Any = {lib.CAPN_KIND_U16: "u16", lib.CAPN_KIND_U32: "u32", lib.CAPN_KIND_U64: "u64"}
 # The format of a number, and its bytes.
@@ -673,7 +674,8 @@ class Message:
     paid: int
     """The cost of reading it, in words."""
     visits: int
-    """How many pointers are followed, each as often as it is met. The root pointer is one, and null pointers count."""
+    """The number of pointers that are followed. A pointer counts each time that it is met. The root pointer and null
+    pointers count, too."""
 
     def __init__(
         self, data: memoryview, entries: Any, paid: int, visits: int, form: int, bounds: Any, in_place: bool
@@ -698,7 +700,7 @@ class Message:
 
     @property
     def root(self) -> Value:
-        """What the root pointer refers to."""
+        """The object that the root pointer refers to."""
         return self._object(0)
 
     def at(self, *way: int) -> Value | Row | None:
@@ -754,7 +756,7 @@ class Message:
         return f"<capn message, {self.paid} words paid, {self.visits} slots>"
 
     def _whole(self) -> tuple[int, Any, Any]:
-        """What the library is given of a message: the number of its form, its bytes, its limits."""
+        """Returns the message as the library takes it: the number of its form, its bytes, and its limits."""
         self._entries[0]
         return self._form, ffi.from_buffer(self._data), self._bounds
 

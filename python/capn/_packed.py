@@ -19,8 +19,8 @@ _one_type, _pipe_type = ffi.typeof("capn_packed_one *"), ffi.typeof("capn_pipe *
 
 
 class Packed(Messages):
-    """The same of a packed stream. If a file can be looked into before it is read, a message is taken at once; else it
-    is read group by group. What is held is packed."""
+    """The messages of a packed stream. If the reader can look into a file before it reads, it takes a message at once.
+    Otherwise it reads group by group. The bytes that it holds are packed."""
 
     __slots__ = ("_peek", "_ready", "_one", "_out", "_words", "_has_begun")
 
@@ -227,12 +227,13 @@ class Packed(Messages):
 
 
 class Piped(Packed):
-    """The same of a pipe that nothing buffers. A message that is there is looked at and read by one call."""
+    """The packed messages of a pipe that nothing buffers. If a message is there, one call looks at it and reads it."""
 
     __slots__ = ("_number_of", "_pipe")
 
     def __init__(self, file: FileIO, splitter: Splitter) -> None:
-        # What ends a pipe closes the numbers in it: so these are written before it can be called.
+        # `capn_pipe_end` closes the file descriptors in the structure. So `capn_pipe_begin` sets them before
+        # `capn_pipe_end` can be called.
         begun = _room(_pipe_type)
         lib.capn_pipe_begin(begun, splitter._bounds, splitter._out, PIECE)
         pipe = self._pipe = ffi.gc(begun, lib.capn_pipe_end)

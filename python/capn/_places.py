@@ -1,11 +1,11 @@
-"""What a stream says of the messages that it returned."""
+"""The properties of a stream that are about the messages it has returned."""
 from __future__ import annotations
 
 __all__ = ["Places"]
 
 
 class Places:
-    """How many messages were returned, and where the last and the next one begin."""
+    """The number of messages that were returned, and the places at which the last and the next message begin."""
 
     __slots__ = ("_number", "_offset", "_last")
 
@@ -18,7 +18,7 @@ class Places:
 
     @property
     def number(self) -> int:
-        """How many messages were returned."""
+        """The number of messages that were returned."""
         return self._number
 
     @property

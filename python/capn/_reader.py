@@ -19,12 +19,13 @@ __all__ = ["Ahead", "Buffered", "Messages", "Raw"]
 
 _raw, _raw_type = ffi.new_allocator(should_clear_after_alloc=False), ffi.typeof("capn_raw *")
 _first, _read_one = lib.capn_first, lib.capn_read_one
-# How many tables are remembered at most, each with how many bytes follow it.
+# The greatest number of segment tables that a reader remembers. With each table, it remembers the number of bytes that
+# follow the table.
 _TABLES = 256
 _HEADS, _PIECES, _ONES = (HEAD,), (PIECE,), (1,)
-# What the messages take at most that are unpacked ahead, unless it is one message.
+# The greatest number of bytes of the messages that are unpacked ahead. A single message may have more.
 _AHEAD = 1 << 18
-# From how many bytes on a buffered file is read without its buffer.
+# If a buffered file is asked for at least this number of bytes, its buffer isn't filled first.
 _LITTLE = 2048
 
 
@@ -44,16 +45,16 @@ class Messages(Places, Iterator[bytes]):
     def __init__(self, read: Callable[[int], Any], splitter: Splitter) -> None:
         self._read, self._splitter = read, splitter
         self._report, self._bounds = splitter._report, splitter._bounds
-        # What `_size` answered of the tables that came, by the table: to find it here is faster than to call.
+        # The results of `_size`, by the segment table. To look a result up is faster than to call.
         self._sizes: dict[bytes, int] = {}
-        # What the file gave, and was not taken yet.
+        # The bytes that the file gave, and that were not taken yet.
         self._new: list[Any] = []
-        # The bytes of the message that has begun, and how many say more about it.
+        # The bytes of the message that has begun, and how many bytes are needed to know more about it.
         self._held: bytes | bytearray = b""
         self._need = LEAST
-        # What each call raises from now on: the end, or the refusal.
+        # The exception that each later call raises: the end of the stream, or the refusal.
         self._over: Exception | None = None
-        # Of a packed stream, how many bytes came before what is held.
+        # In a packed stream, the number of bytes before those that are held.
         self._taken = 0
         self._number = self._offset = 0
         self._last = None
@@ -94,7 +95,8 @@ class Messages(Places, Iterator[bytes]):
         return self._any()
 
     def _size(self, head: bytes) -> int:
-        """How many bytes follow the table of a short message of one segment; 0 of what begins otherwise."""
+        """Returns the number of bytes that follow the segment table of a short message of one segment. Returns 0 if
+        `head` isn't such a table."""
         report, sizes = self._report, self._sizes
         if len(head) != HEAD or head[:4] != ONE or _first(head, HEAD, self._bounds, report) != FRAME_CUT:
             return 0
@@ -142,7 +144,7 @@ class Messages(Places, Iterator[bytes]):
             status = _first(frame, have, self._bounds, report)
             if status == OK:
                 need = report.length
-                # What is left, if the file gave more than it was asked for.
+                # If the file gave more bytes than it was asked for, keeps the rest.
                 self._held, self._need = frame[need:], LEAST
                 self._last = frame = frame[:need]
                 self._number += 1
@@ -177,16 +179,16 @@ class Messages(Places, Iterator[bytes]):
 
 
 class Buffered(Messages):
-    """The same of a buffered file that can't be wound, as of a socket. Its `read` would lose what it has read if a
-    signal's handler raised while it waits for more. So `read1` reads, which gives what is there and waits for some
-    bytes at most. It does not fill the buffer, as a look does."""
+    """The messages of a buffered file that isn't seekable, such as that of a socket. If a signal handler raised while
+    `read` waits for more bytes, `read` would lose the bytes that it has read. So `read1` reads instead. It returns the
+    bytes that are there, and waits only if there are none. It doesn't fill the buffer, as `peek` does."""
 
     __slots__ = ("_peek", "_some", "_left")
 
     def __init__(self, file: Any, splitter: Splitter) -> None:
         super().__init__(file.read, splitter)
         self._peek, self._some = file.peek, file.read1
-        # How many bytes the buffer has, unless others read of it: with fewer it is filled.
+        # The number of bytes in the buffer, unless others read from it. If there are too few, the buffer is filled.
         self._left = 0
 
     def _next(self) -> bytes:
@@ -230,8 +232,8 @@ class Buffered(Messages):
 
 
 class Raw(Messages):
-    """The same of a file that buffers nothing and can't be wound, as a pipe: the system's reads of a message are made
-    by one call."""
+    """The messages of a file that isn't buffered or seekable, such as a pipe. One call makes the system's reads for a
+    message."""
 
     __slots__ = ("_number_of", "_raw", "_words")
 
@@ -263,13 +265,14 @@ class Raw(Messages):
 
 
 class Ahead(Messages):
-    """The same of a stream that has nothing else: it is read in pieces, as many bytes as there are, up to 64 KiB."""
+    """The messages of any other stream. The reader takes as many bytes as there are, up to 64 KiB at once."""
 
     __slots__ = ("_ready", "_some")
 
     def __init__(self, read: Callable[[int], Any], some: Callable[[int], Any], splitter: Splitter) -> None:
         super().__init__(read, splitter)
-        # What reads as many bytes as there are, and does not tell none at the end from none now.
+        # A function that reads as many bytes as there are. If it returns none, the file may have ended, or may have no
+        # bytes now.
         self._some = some
         # Messages that are whole, the last one first.
         self._ready: list[bytes] = []

@@ -31,7 +31,7 @@ class Refusal(ValueError):
     number: int | None = None
     offset: int | None = None
     which: int | None = None
-    # What looks for the way and the byte, until it has found them.
+    # A function that finds the path and the byte of the error. It is None if nothing is left to find.
     _look: Callable[[], Stop] | None = None
     _stop: Stop = (None, None)
 
@@ -62,7 +62,7 @@ class Refusal(ValueError):
 
     @property
     def meaning(self) -> str:
-        """What the error means, such as "an object lies outside of its segment"."""
+        """The meaning of the error, such as "an object lies outside of its segment"."""
         return _meanings().get(self.name, "")
 
     @property
@@ -88,13 +88,13 @@ class Refusal(ValueError):
         return self._stop
 
     def _of_message(self, number: int, offset: int) -> Refusal:
-        """The same, of a message of a stream."""
+        """Returns this refusal, with the number and the offset of its message in a stream."""
         self.number, self.offset = number, offset
         return self
 
 
 def failure(status: int, report: Any) -> Exception:
-    """What to raise for a status that is no answer."""
+    """Returns the exception for a status that isn't a result."""
     if status == lib.CAPN_MEMORY:
         return MemoryError("capn: out of memory")
     name = ffi.string(lib.capn_status_name(status)).decode()
@@ -107,7 +107,7 @@ def failure(status: int, report: Any) -> Exception:
 
 
 def failure_of_words(status: int, report: Any) -> Exception:
-    """The same of words alone, as `pack` takes them: the program names no form."""
+    """Returns the exception for words, as `pack` takes them. Its text names no form, as in the program."""
     fault = failure(status, report)
     if isinstance(fault, Refusal):
         return Refusal(fault.text.removeprefix("bare: "), fault.name, at=fault.at)
@@ -115,8 +115,9 @@ def failure_of_words(status: int, report: Any) -> Exception:
 
 
 def refused(status: int, report: Any, form: int, data: Any, given: Any, bounds: Any) -> Exception:
-    """The same of a message: an object, what the library was given of it, and in which form. The caller's bytes are let
-    go of, so that neither a refusal nor its traceback holds them."""
+    """Returns the exception for a message. `data` is the caller's object, `given` is what the library got of it, and
+    `form` is the form of its bytes. Lets go of the caller's bytes, so that neither a refusal nor its traceback holds
+    them."""
     fault, own = failure(status, report), kept(data, given)
     try:
         if isinstance(fault, Refusal) and fault.place is not None:

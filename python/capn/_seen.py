@@ -21,7 +21,7 @@ _BEYOND, _NEVER = 2048, 1 << 64
 _BUFFERED = (BufferedReader, BufferedRandom, BufferedRWPair)
 # From where on a file is wound.
 _HERE = (1,)
-# How many messages are found at once.
+# The greatest number of messages that are found at once.
 _MOST = 128
 _look_at, _look_at_packed = lib.capn_look_at, lib.capn_look_at_packed
 
@@ -44,21 +44,24 @@ class Seen(Messages):
         splitter: Splitter,
     ) -> None:
         super().__init__(file.read, splitter)
-        # What reads all other messages, as those that are longer.
+        # The reader for all other messages, such as those that are longer.
         self._rest = Packed(file.read, peek, splitter) if splitter._packed else Messages(file.read, splitter)
-        # What answers the bytes at a place of the file, at most so many, and how many are asked for.
+        # A function that returns at most a given number of bytes at a place of the file, and the number of bytes to ask
+        # for.
         self._bytes_at, self._some = bytes_at, PIECE
         # To learn by `seek` where a file stands is faster than by `tell`, which asks the system.
         self._seek: Callable[[int, int], int] = file.seek
         self._look, self._out = splitter._look, splitter._out
-        # What was seen, and its messages that were not handed out yet, the last one first: how many bytes of the file
-        # each has, and where they begin in what was seen; and the message, of one that is packed or passed over.
+        # The bytes that were seen, and the messages in them that were not handed out yet, the last one first. A message
+        # has its number of bytes in the file, and the place at which it begins in the bytes that were seen. A message
+        # that is packed or passed over also has its unpacked bytes.
         self._text = b""
         self._ready: list[tuple[int, int, bytes | None]] = []
-        # From how many bytes on a message is not read again, but passed over. The place is then where what was seen
-        # begins in the file, else -1.
+        # Messages of at least `short` bytes are not read again, but passed over. The place is then the offset in the
+        # file of the bytes that were seen. Otherwise it is -1.
         self._short, self._place = short, -1
-        # How many messages were seen, and where they end in the unpacked bytes, and in what was seen.
+        # The number of messages that were seen, and the places at which they end, in the unpacked bytes and in the
+        # bytes that were seen.
         self._found = 0
         self._ends: list[int] = []
         self._takes: list[int] = []
@@ -77,7 +80,8 @@ class Seen(Messages):
         if self._ready or rest._is_between() and self._is_found():
             ready = self._ready
             taken, at, frame = ready[-1]
-            # What the file answers is in `new`, also after an exception: so it is wound once for each read.
+            # The file's answer is in `new`, also after an exception. So the position of the file is set back once for
+            # each read.
             if self._place < 0:
                 if not new:
                     new.extend(map(self._read, (taken,)))
@@ -96,7 +100,7 @@ class Seen(Messages):
                     return frame  # type: ignore[return-value]
             if len(new) < 2:
                 new.extend(map(self._seek, (-taken,), _HERE))
-            # What was seen says nothing of what comes next.
+            # The bytes that were seen don't say what comes next.
             self._report.length = 0
             del new[:]
         self._close()
@@ -163,7 +167,7 @@ class Seen(Messages):
             rest._offset += need
             del new[:]
             return piece  # type: ignore[no-any-return]
-        # What was read of it is taken by what reads all other messages.
+        # The reader for all other messages takes the bytes that were read.
         return None
 
 

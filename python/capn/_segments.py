@@ -26,7 +26,7 @@ from ._refusal import Refusal, failure
 from ._stop import kept, stop_of_segments
 
 _segments_type = ffi.typeof("capn_segment[]")
-# How many segments a message may have.
+# The greatest number of segments of a message.
 _MOST = 4096
 
 
@@ -55,7 +55,7 @@ class _Laid:
         self.size = sum(map(len, self._held))
 
     def refused(self, status: int, report: Any, bounds: Any) -> Exception:
-        """What to raise for a status that is no answer, as `refused` of one message has it."""
+        """Returns the exception for a status that isn't a result, as `refused` does for one message."""
         fault, own = failure(status, report), list(map(kept, self._data, self._given))
         try:
             if isinstance(fault, Refusal) and fault.place is not None:

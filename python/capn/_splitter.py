@@ -12,7 +12,7 @@ from ._refusal import Refusal, failure
 __all__ = ["FRAME_CUT", "Form", "HEAD", "LEAST", "MEMORY", "OK", "ONE", "PACKED_CUT", "PACKED_TOO_LONG", "PIECE",
            "Splitter", "busy", "group", "of_form"]
 
-# How many bytes are asked of a file at a time at most, and for how many unpacked ones there is room.
+# The greatest number of bytes that a file is asked for at once, and the room for unpacked bytes.
 PIECE = 65536
 # Bytes by which a frame may be refused, bytes that it has at least, and its first ones if it has one segment.
 LEAST, HEAD, ONE = 4, 8, bytes(4)
@@ -21,14 +21,14 @@ _unpack_some, _look_at = lib.capn_unpack_some, lib.capn_look_at
 OK, MEMORY, FRAME_CUT = lib.CAPN_OK, lib.CAPN_MEMORY, lib.CAPN_FRAME_CUT
 PACKED_CUT, PACKED_TOO_LONG = lib.CAPN_PACKED_CUT, lib.CAPN_PACKED_TOO_LONG
 Form = Literal["stream", "packed"]
-# What the messages take at most that one `feed` of packed bytes returns, unless it is one message: so much, or so many
-# times what was fed; and what a message takes besides its bytes.
+# One `feed` of packed bytes returns messages of at most _MOST bytes together, or of at most _TIMES times the bytes that
+# were fed. A single message may be longer. Besides its bytes, a message takes _BESIDE bytes.
 _MOST, _TIMES, _BESIDE = 1 << 23, 16, 56
 
 
 def busy(what: str) -> ValueError:
-    """What a call raises where another one hasn't returned: of another thread, or of the one that a signal's handler
-    interrupted."""
+    """Returns the exception for a call that comes while another call runs: in another thread, or in the call that a
+    signal handler interrupted."""
     return ValueError(f"{what} is being used by another call")
 
 
@@ -42,7 +42,7 @@ def of_form(form: str) -> bool:
 
 
 def group(text: bytes) -> int:
-    """How many bytes the group of a packed text has at least that begins so."""
+    """Returns the least number of bytes of a packed group that begins with these bytes."""
     if not text:
         return 1
     if text[0] == 0:
@@ -69,14 +69,14 @@ class Splitter:
     __slots__ = ("_bounds", "_packed", "_report", "_look", "_held", "_need", "_text", "_at", "_out", "_taken",
                  "_is_left", "_is_busy", "_refusal", "number", "offset")
     number: int
-    """How many messages were returned."""
+    """The number of messages that were returned."""
     offset: int
     """Where the next one begins, in the unpacked bytes."""
 
     def __init__(self, form: Form = "stream", limits: Limits = _USUAL) -> None:
         self._packed, self._bounds = of_form(form), _laid_out(limits)
         self._report, self._look = ffi.new(_report_type), ffi.new(_look_type)
-        # The bytes of the message that has begun, and how many say more about it.
+        # The bytes of the message that has begun, and how many bytes are needed to know more about it.
         self._held, self._need = bytearray(), LEAST
         # The packed bytes that are held, how many of these were unpacked already, and how many came before them: those
         # of the group that has begun, or all that follow where messages are left.
@@ -95,9 +95,9 @@ class Splitter:
 
     @property
     def wanted(self) -> int:
-        """How many bytes may be fed next so that none of them comes after the message that has begun, or, in a packed
-        stream, after the group in which it ends. It is 0 if messages are left, and after a `MemoryError`: feed nothing
-        then, to get them or to try again."""
+        """The greatest number of bytes to feed next so that none of them comes after the message that has begun. In a
+        packed stream, none of them comes after the group in which the message ends. The number is 0 if messages are
+        left, and after a `MemoryError`. Then feed nothing, to get the messages or to try again."""
         missing = max(self._need, HEAD) - len(self._held)
         if missing <= 0 or self._is_left:
             return 0
@@ -230,7 +230,7 @@ class Splitter:
 
     @staticmethod
     def _cost(found: list[bytes], end: int) -> int:
-        """What messages take, which have so many bytes."""
+        """Returns the memory that messages take. `end` is the number of their bytes."""
         return end + _BESIDE * len(found)
 
     def _whole(self, found: list[bytes], at: int, need: int, most: int | None = None) -> tuple[int, int, int]:

@@ -45,7 +45,7 @@ def stop_of(form: int, data: Any, bounds: Any) -> Stop:
 
 
 def stop_of_segments(segments: Sequence[Any], bounds: Any) -> Stop:
-    """The same of a message in segments: in their frame."""
+    """Does the same as `stop_of` for a message in segments, with a segment table before them."""
     sizes = [len(segments) - 1, *(memoryview(one).nbytes // 8 for one in segments)]
     table = b"".join(size.to_bytes(4, "little") for size in sizes)
     return stop_of(lib.CAPN_STREAM, table + bytes(len(table) % 8) + b"".join(segments), bounds)

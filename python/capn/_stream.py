@@ -36,7 +36,7 @@ class Readable(Protocol):
 
 
 class AsyncReadable(Protocol):
-    """The same of a reader that is awaited, as an `asyncio.StreamReader` is."""
+    """A reader whose `read` is awaited, such as an `asyncio.StreamReader`. Otherwise it is like `Readable`."""
 
     async def read(self, size: int, /) -> bytes: ...
 
@@ -143,7 +143,7 @@ def _digest(message: bytes, limits: Limits) -> bytes:
 
 
 class _Answers(Generic[_Source]):
-    """What a call answers of each message of a stream."""
+    """The results of a call on each message of a stream."""
 
     __slots__ = ("_messages", "_limits", "_call", "_frame", "_at", "_last", "_last_at", "_is_busy")
 
@@ -160,7 +160,7 @@ class _Answers(Generic[_Source]):
 
     @property
     def number(self) -> int:
-        """How many messages were returned, or rejected."""
+        """The number of messages that were returned or rejected."""
         return self._messages.number - (self._frame is not None)
 
     @property
@@ -179,7 +179,7 @@ class _Answers(Generic[_Source]):
         return self._last_at
 
     def _answer(self, frame: bytes) -> tuple[bytes, Refusal | None]:
-        """What the call answers of the message that is next, and its refusal if it has one."""
+        """Returns the result of the call on the next message, and the refusal if the message is rejected."""
         refused, answer = None, b""
         try:
             answer = self._call(frame, self._limits)
@@ -192,7 +192,7 @@ class _Answers(Generic[_Source]):
 
 
 class _Read(_Answers[Messages]):
-    """The same of a file."""
+    """The results of a call on each message of a file."""
 
     __slots__ = ()
 
@@ -283,7 +283,7 @@ class AsyncMessages(Places, AsyncIterator[bytes]):
         self, read: Callable[[int], Awaitable[bytes]], splitter: Splitter, is_ahead: bool = False
     ) -> None:
         self._read, self._splitter, self._is_ahead = read, splitter, is_ahead
-        # What was read, until the splitter has it.
+        # The bytes that were read, until the splitter has them.
         self._piece: bytes | None = None
         # Messages that are whole, the last one first.
         self._ready: list[bytes] = []
