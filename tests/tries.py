@@ -55,8 +55,8 @@ def tests_of(crate):
 
 
 def modules_of_calls(crate):
-    """Returns, for each call in the test cases of a crate, the modules that the call depends on. They are the module of
-    the call, and the modules that the module of the call uses."""
+    """Returns, for each call in the test cases of a crate, the modules that the call depends on. These modules are the
+    call's own module and the modules that this module uses."""
     folder = os.path.join(TOP, "crates", crate, "src")
     modules = {name[:-3]: text_of("crates", crate, "src", name) for name in os.listdir(folder)}
 

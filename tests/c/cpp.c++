@@ -90,9 +90,9 @@ static void answers() {
     want("unpack", capn::bytes(capn::unpack(packed)).chars() == one);
     want("packed", capn::canonical(packed, capn::form::packed) == capn::canonical(one));
     want("canonical words", capn::is_canonical_words(capn::canonical(one)) && !capn::is_canonical_words(one.substr(8)));
-    /* This message has one segment, and the last word of the segment isn't zero. If all bytes of the message are read
-     * as one segment without a segment table, they are canonical. The message itself isn't canonical, since its struct
-     * has a zero word before a pointer. */
+    /* The segment table of this message can be read as a pointer to a struct. The words of the struct are those of the
+     * segment, and the last of them isn't zero. So the bytes of the whole message are canonical words. The message
+     * itself isn't canonical, since its struct has a zero word before a pointer. */
     using capn::form;
     const capn::limits few(99, 2, 9);
     const std::string loose = framed(words({2ull << 32 | 1ull << 48, 5, 0, 1 | 0x22ull << 32, 0x636261}));

@@ -36,10 +36,10 @@ Line = collections.namedtuple("Line", "offset place bytes times kind way text")
 
 
 class Cover:
-    """The cover of an accepted message: which visits cover which words. Words are numbered from the first segment on.
-    These lists have an item for each word. `times` says how often the word is covered. `parts` has the part that covers
-    the word first, or None. `roles` has the role of the word in this part. `overlaps` says whether another part covers
-    the word, too."""
+    """Says which objects and landing pads of an accepted message cover which words. Words are numbered from the first
+    segment on. The following lists have an item for each word. `times` says how often the word is covered. `parts` has
+    the part that covers the word first, or None. `roles` has the role of the word in this part. `overlaps` says whether
+    another part covers the word, too."""
 
     def __init__(self, segments):
         self.segments = [struct.unpack(f"<{len(one) // 8}Q", one) for one in segments]
@@ -47,7 +47,8 @@ class Cover:
         total = sum(map(len, self.segments))
         self.times, self.parts, self.roles = [0] * total, [None] * total, [None] * total
         self.overlaps, self.visits = [False] * total, 0
-        # For each word, the number of the visit to which the word belongs. Number 0 is the message itself.
+        # For each word, the number of the visit that covered the word first. A visit follows one pointer. Number 0
+        # stands for the message itself.
         self.belongs = [None] * total
         self.cover(MESSAGE, 0, 0, 0, 1, "slot")
         self.visit(0, 0, ())
