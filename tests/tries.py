@@ -151,8 +151,8 @@ def cases_job(crate, cases):
         with tempfile.TemporaryDirectory() as folder:
             for number, part in enumerate(parts):
                 with open(os.path.join(folder, f"{number:04}"), "w", encoding="utf-8") as file:
-                    # In this run, only some allocations of each call fail. In `make test`, which runs the compiled
-                    # code, each allocation fails in turn.
+                    # The word `few` makes only some allocations of each call fail. In `make test`, which runs the
+                    # compiled code, each allocation fails in turn.
                     file.write(stored.asked(part, "few "))
             # `rt try` interprets the program. The interpreter can't run code that allocates memory from the system.
             status, out, said = try_crate(crate, ["--steps", "1", "--seconds", str(SECONDS), "--cases", folder])

@@ -1,4 +1,4 @@
-"""Bytes as a call takes them: in place where nothing can change them, else copied."""
+"""Bytes as a call takes them. They are read in place if nothing can change them, and copied otherwise."""
 from __future__ import annotations
 
 import sys
@@ -22,8 +22,9 @@ _SHORT = 4096
 
 
 def taken(data: Buffer, in_place: bool) -> Any:
-    """The bytes of an object, for a call. Of `bytes`, and of a view of `bytes`, they can't change, and are taken in
-    place; those of another object are copied, unless the caller says that nothing changes them."""
+    """Returns the bytes of an object for a call. The bytes of a `bytes`, or of a view of a `bytes`, can't change, so
+    the call reads them in place. The bytes of any other object are copied, unless the caller says that nothing changes
+    them."""
     if type(data) is bytes:
         return data
     if not in_place:
@@ -36,14 +37,14 @@ def taken(data: Buffer, in_place: bool) -> Any:
     try:
         return _from_buffer(data)
     except (BufferError, ValueError):
-        # It has gaps, or another order of its elements: numpy says so by a `ValueError`.
+        # The bytes have gaps, or their elements have another order. numpy reports this by a `ValueError`.
         return copied(data)
     except TypeError:
         raise no_buffer(data) from None
 
 
 def copied(data: Buffer) -> bytes:
-    """A copy of the bytes of an object; those of a view with gaps are copied together."""
+    """Returns a copy of the bytes of an object. The parts of a view with gaps are put together."""
     try:
         return memoryview(data).tobytes()
     except TypeError:

@@ -13,7 +13,7 @@ from ._message import Message
 from ._refusal import let_go, refused
 
 _lines_type = ffi.typeof("capn_line[]")
-# A line as the library lays it out.
+# The layout of a line in the library's memory.
 _LAID_OUT = _Layout("<Q10I")
 # The number of lines for which there is room at first. This is enough for most small messages.
 _FEW = 256
@@ -37,23 +37,23 @@ class LineKind(IntEnum):
     SLACK = lib.CAPN_LINE_SLACK
     """Words of a list of structs after its elements."""
     UNREACHED = lib.CAPN_LINE_UNREACHED
-    """Words of no object or landing pad."""
+    """Words that belong to no object and no landing pad."""
 
 
 class Line(NamedTuple):
-    """A line of a message: words one after another in one segment that are alike."""
+    """A line of a message: consecutive words of one segment that are alike."""
 
     offset: int
-    """Where the first word begins in the message, or in the unpacked bytes of a packed message."""
+    """The offset of the first word in the message. In a packed message, the offset counts the unpacked bytes."""
     place: tuple[int, int]
-    """The segment of the words, and the number of the first word in that segment."""
+    """The number of the segment, and the number of the first word in the segment."""
     words: int
     """The number of words, 1 or more."""
     times: int
     """The number of times that objects and landing pads cover each of the words. It is 0 for `LineKind.UNREACHED`."""
     slot: tuple[int, int] | None
-    """The pointer to the object or landing pad that has the words: its segment, and its word in that segment. None for
-    the root pointer, and for `LineKind.UNREACHED`."""
+    """The place of the pointer to the object or landing pad that has the words: the pointer's segment, and its word in
+    that segment. None for the root pointer, and for `LineKind.UNREACHED`."""
     cut: int
     """The number of words that canonical bytes leave out."""
     not_zero: int
@@ -63,7 +63,7 @@ class Line(NamedTuple):
     overlap: bool
     """Whether different objects or landing pads overlap in the words."""
     padding: bool
-    """Whether the line has the last word of a list, whose padding isn't zero."""
+    """Whether the line has the last word of a list, and the padding after the list isn't zero."""
 
 
 _KINDS = tuple(LineKind)
@@ -72,9 +72,9 @@ _KINDS = tuple(LineKind)
 def annotate(
     message: Message | Buffer, form: Form = "stream", limits: Limits = _USUAL, *, in_place: bool = False
 ) -> list[Line]:
-    """Returns the lines of a message, as `capn annotate` has them, in the order of the words: each word of each segment
-    is in exactly one. The segment table has no line. The message is one that was read, or bytes within limits; it may
-    have a capability.
+    """Returns the lines of a message, as `capn annotate` has them, in the order of the words. Each word of each segment
+    is in exactly one line. The segment table has no line. The message is a `Message`, or bytes that are read with the
+    given limits. It may have a capability.
 
     A call takes 16 bytes for each word of a valid message, and 48 for each line."""
     if isinstance(message, Message):

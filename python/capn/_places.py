@@ -23,7 +23,7 @@ class Places:
 
     @property
     def offset(self) -> int:
-        """Where the next one begins, in the unpacked bytes."""
+        """The place at which the next message begins, in the unpacked bytes."""
         return self._offset
 
     @property
@@ -33,5 +33,5 @@ class Places:
 
     @property
     def last_offset(self) -> int | None:
-        """Where the last message began, in the unpacked bytes, or None."""
+        """The place at which the last message began, in the unpacked bytes, or None."""
         return None if self._last is None else self.offset - len(self._last)

@@ -1,4 +1,4 @@
-"""The messages of a file, read as they come in.
+"""Readers of the messages of a file, as the bytes come in.
 
 A signal's handler may raise an exception after any call that Python makes, and what that call answered is lost then. So
 a file is read by a call of C that puts what it gave into a list, `_new`. From there bytes are taken, and messages are
@@ -30,8 +30,8 @@ _LITTLE = 2048
 
 
 class Messages(Places, Iterator[bytes]):
-    """The messages of a stream, each with its segment table; `messages` makes it. It goes on after an exception of the
-    file, and after one of a signal's handler.
+    """The messages of a stream, each with its segment table. The function `messages` makes this iterator. It goes on
+    after an exception of the file, and after an exception of a signal handler.
 
     A loop over it loses no message then. If `next` is called, the exception may come when it is about to return: the
     message is counted, and `last` is that message.
@@ -58,15 +58,16 @@ class Messages(Places, Iterator[bytes]):
         self._taken = 0
         self._number = self._offset = 0
         self._last = None
-        # Whether a call is being made.
+        # Whether a call runs now.
         self._is_busy = False
 
     def _is_between(self) -> bool:
-        """Whether the file stands between two messages, and has not been refused."""
+        """Returns whether the file is between two messages, and no message was rejected."""
         return not self._held and not self._new and self._over is None
 
     def __next__(self) -> bytes:
-        # No line between the test and the flag calls anything, so no other thread and no handler runs there.
+        # Between this test and the setting of the flag, no line makes a call. So no other thread and no signal handler
+        # runs there.
         if self._is_busy:
             raise busy("this stream")
         self._is_busy = True
@@ -79,7 +80,7 @@ class Messages(Places, Iterator[bytes]):
         new = self._new
         if new or self._held or self._over is not None:
             return self._any()
-        # As most messages are: of one segment, short, and read by two calls of the file.
+        # Most messages are short and have one segment. They are read by two calls of the file.
         read = self._read
         new.extend(map(read, _HEADS))
         if new and type(head := new[0]) is bytes:
@@ -100,7 +101,7 @@ class Messages(Places, Iterator[bytes]):
         report, sizes = self._report, self._sizes
         if len(head) != HEAD or head[:4] != ONE or _first(head, HEAD, self._bounds, report) != FRAME_CUT:
             return 0
-        # The frame of one segment is as long as its table says, of which all of these bytes are there.
+        # The length of a message of one segment follows from its segment table, which `head` has in full.
         size: int = report.length - HEAD
         if size > PIECE:
             return 0
@@ -109,14 +110,14 @@ class Messages(Places, Iterator[bytes]):
         return size
 
     def _more(self, size: int) -> None:
-        """Has the file give at most so many bytes."""
+        """Makes the file give at most `size` bytes."""
         self._new.extend(map(self._read, (size,)))
         if not self._new:
-            # So a file ends a loop by an exception of its own.
+            # The `read` of the file has raised a StopIteration, which ends the loop over the messages.
             raise StopIteration
 
     def _take(self) -> None:
-        """Holds what the file gave, or raises what it means that it gave nothing."""
+        """Takes the bytes that the file gave. If the file gave no bytes, raises the exception for the reason."""
         new = self._new
         while new:
             piece = new[0]
@@ -126,7 +127,7 @@ class Messages(Places, Iterator[bytes]):
             del new[0]
 
     def _any(self) -> bytes:
-        """The next message, of whatever shape, of which some bytes are held."""
+        """Returns the next message, whatever its shape. Some of its bytes may already be held."""
         report = self._report
         while True:
             if self._over is not None:
@@ -136,7 +137,7 @@ class Messages(Places, Iterator[bytes]):
             if have < need:
                 missing = max(need, HEAD) - have
                 if missing > PIECE:
-                    # Memory grows as bytes come.
+                    # The memory grows only as the bytes come.
                     missing = min(missing, max(PIECE, have))
                 self._more(missing)
                 continue
@@ -173,7 +174,7 @@ class Messages(Places, Iterator[bytes]):
         raise self._over
 
     def _end(self) -> None:
-        """Refuses a message that is cut."""
+        """Refuses a truncated message."""
         if self._held:
             self._refuse(FRAME_CUT)
 
@@ -195,7 +196,7 @@ class Buffered(Messages):
         new = self._new
         if new or self._held or self._over is not None:
             return self._any()
-        # As most messages are: of one segment, short, and read by two calls of the file.
+        # Most messages are short and have one segment. They are read by two calls of the file.
         some = self._some
         if self._left < HEAD:
             self._left = len(self._peek(1))
@@ -226,7 +227,7 @@ class Buffered(Messages):
         new.extend(map(self._some, (size,)))
         self._left -= size
         if not new[0]:
-            # One byte more tells the end from none now.
+            # A read of one more byte tells whether the file has ended, or has no bytes now.
             del new[0]
             new.extend(map(self._read, _ONES))
 
@@ -239,7 +240,7 @@ class Raw(Messages):
 
     def __init__(self, file: FileIO, splitter: Splitter) -> None:
         super().__init__(file.read, splitter)
-        # The number that the system gave to the file; it raises an exception if the file is closed.
+        # A function that returns the file descriptor. It raises an exception if the file is closed.
         self._number_of = file.fileno
         self._raw = _raw(_raw_type)
         self._raw.limits, self._raw.have, self._raw.whole = self._bounds[0], 0, 0
@@ -258,7 +259,7 @@ class Raw(Messages):
             self._offset += count
             raw.whole = 0
             return frame  # type: ignore[no-any-return]
-        # The file says what it means that no more came.
+        # No more bytes came. The next read of the file says why.
         self._held = self._words[0:raw.have]
         raw.have = 0
         return self._any()
@@ -274,7 +275,7 @@ class Ahead(Messages):
         # A function that reads as many bytes as there are. If it returns none, the file may have ended, or may have no
         # bytes now.
         self._some = some
-        # Messages that are whole, the last one first.
+        # The messages that are complete, the last one first.
         self._ready: list[bytes] = []
 
     def _next(self) -> bytes:

@@ -1,4 +1,5 @@
-"""The text of a message, as `capn show` writes it: of a whole one the library's, of a part the package's own."""
+"""The text of a message, as `capn show` writes it. The library makes the text of a whole message, and this package
+makes the text of a part."""
 from __future__ import annotations
 
 from typing import Any, Iterable, Iterator
@@ -11,7 +12,7 @@ from ._message import Message, Object, Row, read
 from ._refusal import refused
 
 _JSON_ESCAPED = {ord('"'): '\\"', ord("\\"): "\\\\", 9: "\\t", 10: "\\n", 13: "\\r"}
-# Code points that nobody sees, or that turn what others see. Between quotes they are written as their numbers.
+# Code points that are invisible, or that change the direction of the text. Between quotes they are written as numbers.
 _HIDDEN = (0xAD, 0x61C, 0x180E, *range(0x200B, 0x2010), *range(0x2028, 0x202F), *range(0x2060, 0x2070), 0xFEFF,
            *range(0xFFF9, 0xFFFC), *range(0xE0000, 0xE0080))
 _ESCAPED = {**_JSON_ESCAPED, 0: "\\0", **{code: f"\\u{{{code:x}}}" for code in _HIDDEN}}
@@ -35,7 +36,8 @@ def show(
     json: bool = False,
     at: Iterable[int] = (),
 ) -> str:
-    """Returns what `capn show` prints for one message that was read, for an object of it, or for bytes within limits.
+    """Returns what `capn show` prints for a `Message`, for an object of a message, or for bytes that are read with the
+    given limits.
 
     - With `text` a list of bytes that is a text is shown as one, as with `--text`.
     - With `json` the result is a line of JSON, as with `--json`; with both it is a line with texts.
@@ -58,7 +60,7 @@ def show(
 
 
 def _whole(message: Message | Buffer, form: Form, limits: Limits, style: int) -> str:
-    """The text of a message by the library."""
+    """Returns the text that the library makes of a message."""
     if isinstance(message, Message):
         number, given, bounds = message._whole()
         limits = Limits(bounds.message_words, bounds.budget, bounds.depth)
@@ -70,7 +72,7 @@ def _whole(message: Message | Buffer, form: Form, limits: Limits, style: int) ->
         status: int = lib.capn_show(number, given, size, bounds, style, ffi.cast("char *", out), room, report)
         return status
 
-    # Mostly enough. If it isn't, the call reports the length, but makes the text for nothing.
+    # This room is enough for most messages. Otherwise the call makes the text in vain, and reports the length.
     room = min((16 if number == lib.CAPN_PACKED else 4) * size, 4 * _most_bytes(size, number, limits),
                64 * (limits.budget + 1)) + 256
     text = _filled(call, room, (given,), lambda status, report: refused(status, report, number, message, given, bounds))
