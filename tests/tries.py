@@ -186,7 +186,7 @@ def product():
 
 
 def items_of(crate, module):
-    """Yields what a module exports: for each name, the path of the module that it comes from, and the name."""
+    """Yields a pair for each name that a module exports: the path of the module that defines the name, and the name."""
     text = text_of("crates", crate, "src", f"{module}.rt")
     yield from ((module, name) for name in re.findall(r"^pub (?:fn|struct|enum|trait) (\w+)", text, re.M))
     for path, names in re.findall(r"^pub use ([\w:]+)::(\{[^}]*\}|\w+);", text, re.M):
