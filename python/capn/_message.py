@@ -151,7 +151,8 @@ class _Items(Sequence[_T]):
         return map(self._item, range(len(self)))
 
     def _is_list(self, other: object) -> bool:
-        """Returns whether another list, tuple or range has the same elements. Any other object is not comparable."""
+        """Returns whether another list, tuple or range has the same elements. For any other object, returns
+        NotImplemented."""
         if not isinstance(other, (list, tuple, range)):
             return NotImplemented
         return len(self) == len(other) and all(one == two for one, two in zip(self, other))
