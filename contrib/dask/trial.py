@@ -48,7 +48,7 @@ def by_one_process(data: bytes, *words: str) -> tuple[bytes, str]:
 
 
 def run_command(paths: list[str]) -> subprocess.CompletedProcess[bytes]:
-    """Runs the command dedupe.py without a cluster. It writes the result into the file `framed`."""
+    """Runs the command dedupe.py without a cluster. The command writes the result into the file `framed`."""
     script = Path(__file__).with_name("dedupe.py")
     words = [sys.executable, "-B", str(script), "--canonical", "--most", str(MOST), "framed", *paths]
     return subprocess.run(words, capture_output=True, check=False)
