@@ -4,7 +4,7 @@ PREFIX ?= /usr/local
 override PREFIX := $(abspath $(PREFIX))
 LIBDIR ?= $(PREFIX)/lib
 override LIBDIR := $(abspath $(LIBDIR))
-# What capn.pc calls its prefix. In the archive, the prefix is the folder where capn.pc lies.
+# The prefix that capn.pc names. In the archive, this prefix is the folder where capn.pc lies.
 PC_PREFIX ?= $(PREFIX)
 # The version is in the file VERSION.
 VERSION := $(shell cat VERSION)

@@ -15,7 +15,7 @@ BUILD = os.path.join(TOP, "build")
 # The crate of the library for C, and the log of its build. `rt ci` proves the crate, but doesn't build its archive.
 LIBRARY = "capn_c"
 LIBRARY_LOG = os.path.join(BUILD, "library.log")
-# These crates have no tests. `make test` runs them, but doesn't prove them. Only `make test-all` proves them.
+# The crates that only `make test-all` proves. They have no tests, and `make test` runs them without proving them.
 UNPROVED = ("bench",)
 
 

@@ -44,15 +44,15 @@
 extern "C" {
 #endif
 
-/* How the bytes of a message are encoded. */
+/* The form in which the bytes of a message are encoded. */
 enum capn_form {
     CAPN_STREAM = 0, /* a segment table, then the segments */
     CAPN_PACKED = 1, /* the same, packed */
     CAPN_BARE = 2    /* a single segment without a table */
 };
 
-/* How the cost of reading a message is counted. An object costs its words again each time that a pointer to it is
- * followed. */
+/* The rule by which the cost of reading a message is counted. An object costs its words again each time that a pointer
+ * to it is followed. */
 enum capn_tariff {
     CAPN_STRICT = 0, /* each struct and list costs its size in words, and one word more */
     CAPN_PLAIN = 1   /* its size alone, as in the C++ implementation, whose traversal limit needs 2 words more */
@@ -145,7 +145,7 @@ enum capn_departure_kind {
     CAPN_DEPARTS_AFTER = 4       /* the canonical bytes end before `word`, which is `is` */
 };
 
-/* What a word of the canonical bytes is part of. The path leads to the pointer. */
+/* The part of the canonical bytes that a word belongs to. The path leads to the pointer. */
 enum capn_owner {
     CAPN_OWNER_NONE = 0,     /* the kind is not CAPN_DEPARTS_WORD */
     CAPN_OWNER_POINTER = 1,  /* the word is the pointer itself, */
@@ -166,7 +166,7 @@ typedef struct capn_departed {
     uint32_t zero;      /* always 0 */
 } capn_departed;
 
-/* What the words of a line are. */
+/* The kind of the words of a line. */
 enum capn_line_kind {
     CAPN_LINE_POINTER = 0,  /* a pointer that is not null, */
     CAPN_LINE_NULL = 1,     /* null pointers, */

@@ -66,17 +66,17 @@
 
 namespace capn {
 
-/* How the bytes of a message are encoded. */
+/* The form in which the bytes of a message are encoded. */
 enum class form : std::uint32_t {
     stream = CAPN_STREAM, /* a segment table, then the segments */
     packed = CAPN_PACKED, /* the same, packed */
     bare = CAPN_BARE      /* a single segment without a table */
 };
 
-/* How the cost of reading is counted. */
+/* The rule by which the cost of reading is counted. */
 enum class tariff : std::uint32_t { strict = CAPN_STRICT, plain = CAPN_PLAIN };
 
-/* What a call accepts: the default limits, unless others are set. */
+/* The limits of what a call accepts: the default limits, unless others are set. */
 struct limits : capn_limits {
     limits() noexcept : capn_limits CAPN_USUAL_LIMITS {}
     /* The words of a message, the traversal limit in words, the nesting limit, and the counting rule. */
@@ -196,7 +196,7 @@ public:
      * 0. */
     std::uint64_t number() const noexcept { return number_; }
     std::uint64_t offset() const noexcept { return offset_; }
-    /* What the status means in a few words, such as "an object lies outside of its segment". */
+    /* The meaning of the status in a few words, such as "an object lies outside of its segment". */
     const char *meaning() const noexcept {
         if (status_ == read_failed) return "the function of a reader failed";
         if (status_ == read_overrun) return "the function of a reader returned more bytes than it was asked for";
@@ -214,8 +214,9 @@ public:
         return "message " + std::to_string(number_) + " at " + std::to_string(offset_) + ": " + out;
     }
 
-    /* The same error with more about the message: its number and offset in a stream; which of two messages it is; and
-     * that it is the words that `pack` takes, so that the text doesn't begin with the form "bare: ". */
+    /* Each of these calls returns a copy of the error that says more about the message: its number and offset in a
+     * stream, or which of two messages it is, or that it is the words that `pack` takes. In the last case, the text
+     * doesn't begin with the form "bare: ". */
     error in_stream(std::uint64_t number, std::uint64_t offset) const noexcept {
         error out = *this;
         out.number_ = number;
@@ -361,7 +362,7 @@ private:
 
 namespace detail {
 
-/* What `call` returns; an allocation that fails is an error, too. */
+/* Returns the result of `call`. If an allocation fails, this is an error, too. */
 template <class Call> auto guarded(Call call) noexcept -> decltype(call()) {
 #if CAPN_EXCEPTIONS
     try {
@@ -438,7 +439,7 @@ struct checked {
     std::uint32_t visits;
 };
 
-/* How the dump of a message is written. */
+/* The style in which the dump of a message is written. */
 enum class style : std::uint32_t {
     lines = CAPN_STYLE_LINES,        /* lines, with lists of bytes in hexadecimal */
     text = CAPN_STYLE_TEXT,          /* the same, but with lists of bytes that are texts in quotes */
@@ -482,7 +483,7 @@ struct departed {
     way to;                       /* the path to that pointer */
 };
 
-/* What `canonical_into` returns, as capn.h has it. It is true if the canonical bytes were written. */
+/* The result of `canonical_into`, as capn.h has it. It is true if the canonical bytes were written. */
 struct [[nodiscard]] filled {
     capn_status status; /* CAPN_OK, CAPN_NO_ROOM, CAPN_NO_SCRATCH, or why there are no canonical bytes */
     capn_report report;
@@ -638,7 +639,7 @@ inline expected<std::optional<departed>> try_departure(bytes message, form writt
     });
 }
 
-/* What the words of a line are. */
+/* The kind of the words of a line. */
 enum class line_kind : std::uint32_t {
     pointer = CAPN_LINE_POINTER,    /* a pointer that isn't null, */
     null = CAPN_LINE_NULL,          /* null pointers, */
@@ -739,7 +740,7 @@ public:
     segments(const C &view) noexcept : segments(std::data(view), std::size(view)) {}
     const capn_segment *data() const noexcept { return first_; }
     std::size_t size() const noexcept { return count_; }
-    /* How many bytes the segments have. It stops counting once they are more than a message can have. */
+    /* The number of bytes of the segments. The count stops once it is more than a message can have. */
     std::size_t bytes_in_all() const noexcept {
         constexpr std::size_t most = 1u << 28;
         std::size_t words = 0;
@@ -917,7 +918,7 @@ private:
 
 namespace detail {
 
-/* What `->` of an iterator returns, whose elements are made as they are read. */
+/* The result of `->` of an iterator whose elements are made as they are read. */
 template <class T> struct arrow {
     T held;
     const T *operator->() const noexcept { return &held; }
@@ -946,7 +947,7 @@ template <class Each> expected<std::size_t> try_for_each(bytes stream, Each &&ea
     return try_for_each(stream, limits(), std::forward<Each>(each));
 }
 #if CAPN_EXCEPTIONS
-/* The same; it throws the error. */
+/* Does what `try_for_each` does, but throws the error. */
 template <class Each> std::size_t for_each(bytes stream, const limits &most, Each &&each) {
     return try_for_each(stream, most, std::forward<Each>(each)).value();
 }
@@ -972,7 +973,7 @@ template <class Read> constexpr bool returns_size() {
     return true;
 }
 
-/* How many bytes came, of those that were asked for. */
+/* Reads at most the given number of bytes, and returns how many bytes came. */
 template <class Read> expected<std::size_t> read_some(Read &read, std::byte *to, std::size_t most) {
     using answer = answer_of<Read>;
     std::size_t came;
@@ -1058,7 +1059,7 @@ public:
     }
     expected<std::optional<stream_message>> try_next() && = delete;
 #if CAPN_EXCEPTIONS
-    /* The same; it throws the error. */
+    /* Does what `try_next` does, but throws the error. */
     std::optional<bytes> next() & {
         if (const auto found = try_next().value()) return *found;
         return std::nullopt;
@@ -1096,8 +1097,8 @@ public:
     iterator end() && = delete;
 #endif
 
-    /* How many messages were returned, where the last one began, and where the next one begins, in bytes of the
-     * stream. */
+    /* The number of messages that were returned, the offset of the last message, and the offset of the next message.
+     * Offsets are in bytes of the stream. */
     std::uint64_t number() const noexcept { return number_; }
     std::uint64_t message_offset() const noexcept { return whole_ ? offset_ : last_; }
     std::uint64_t offset() const noexcept { return whole_ ? offset_ + have_ : offset_; }
@@ -1117,7 +1118,8 @@ private:
 
 namespace detail {
 
-/* How many bytes the group of packed bytes has at least that begins so, and how many words a complete one has. */
+/* The first call returns the least number of bytes of a group of packed bytes that begins so. The second call returns
+ * the number of words of a complete group. */
 inline std::size_t group_size(const std::byte *from, std::size_t have) noexcept {
     if (have == 0) return 1;
     unsigned tag = std::to_integer<unsigned>(from[0]);
@@ -1221,7 +1223,7 @@ public:
         : reader<detail::unpacking<Read>>(detail::unpacking<Read>(std::move(read)), most) {}
 };
 
-/* What a pointer refers to. */
+/* The kind of the object that a pointer refers to. */
 enum class kind : std::uint32_t {
     null = CAPN_KIND_NULL,
     structure = CAPN_KIND_STRUCT,
@@ -1277,7 +1279,7 @@ class record;
 class rows;
 template <class T> class numbers;
 
-/* What a pointer refers to, in the message of an index: valid as long as the index and the bytes. */
+/* The object that a pointer refers to, in the message of an index. It is valid as long as the index and the bytes. */
 class value {
 public:
     value() noexcept : message_(nullptr), entry_(nullptr) {}
@@ -1288,8 +1290,8 @@ public:
     /* Its entry; null for a pointer that a struct doesn't have. */
     const capn_entry *entry() const noexcept { return entry_; }
 
-    /* What the schema says that it is; or the kind that it is instead. A null pointer gives `fallback`, a struct in
-     * which each field has its default, and a list without elements. */
+    /* Each call returns the object as the schema has it, or the kind of the object if that is another one. A null
+     * pointer gives `fallback`, a struct in which each field has its default, and a list without elements. */
     expected<record, capn::kind> try_struct() const noexcept;
     expected<std::string_view, capn::kind> try_text(std::string_view fallback CAPN_LIFETIMEBOUND = {}) const noexcept;
     template <class S, std::enable_if_t<!std::is_lvalue_reference_v<S> && detail::owns_text<std::remove_cv_t<S>>,
@@ -1304,7 +1306,7 @@ public:
         return entry_->count;
     }
 #if CAPN_EXCEPTIONS
-    /* The same; they throw `mismatch` if it is something else. */
+    /* These calls do what the calls with `try_` do, but throw `mismatch` if the object has another kind. */
     record as_struct() const;
     std::string_view text(std::string_view fallback CAPN_LIFETIMEBOUND = {}) const {
         return expect(try_text(fallback), "text");
@@ -1563,7 +1565,7 @@ public:
         if (status != CAPN_OK) return error(status, report);
         return made;
     }
-    /* The same of segments, whose words are copied: the index has the copy. */
+    /* Makes an index of a message in segments. The words of the segments are copied, and the index has the copy. */
     static expected<index> try_of(segments message, const limits &most = {}) noexcept {
         expected<buffer> whole = detail::joined(message, most);
         if (!whole) return whole.error();
@@ -1575,7 +1577,7 @@ public:
                                         int> = 0>
     static expected<index> try_of(C &&message, form written = form::stream, const limits &most = {}) = delete;
 #if CAPN_EXCEPTIONS
-    /* The same; they throw the error. */
+    /* These calls do what `try_of` does, but throw the error. */
     static index of(bytes message, form written = form::stream, const limits &most = {}) {
         return try_of(message, written, most).value();
     }

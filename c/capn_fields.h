@@ -91,7 +91,7 @@ static inline uint64_t capn_field(const capn_record *record, uint32_t at, uint32
     return (value ^ fallback) & mask;
 }
 
-/* The same for a signed number. */
+/* Reads a signed number as capn_field reads an unsigned one. */
 static inline int64_t capn_field_int(const capn_record *record, uint32_t at, uint32_t bits, int64_t fallback) {
     const uint64_t value = capn_field(record, at, bits, CAPN_CAST(uint64_t, fallback));
     const uint64_t sign = UINT64_C(1) << (bits - 1);

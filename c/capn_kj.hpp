@@ -20,7 +20,7 @@ public:
         all_.reserve(message.size());
         for (const auto &segment : message) add(segment);
     }
-    /* What `messageToFlatArray` would write. A builder without a root has no segment, and is rejected. */
+    /* The segments that `messageToFlatArray` would write. A builder without a root has no segment, and is rejected. */
     kj_segments(capnp::MessageBuilder &message) : kj_segments(message.getSegmentsForOutput()) {}
     /* The limits of a reader don't matter here: it only says where its segments are. A null segment means that it has
      * no more. So where an array has a null segment between others, pass the array itself, or its reader by its

@@ -1,15 +1,15 @@
 // Package capn checks, canonicalizes, hashes, packs and reads Cap'n Proto messages. It needs no schema.
 //
-// It calls the library for C, which is formally verified, by cgo. It is for Linux on amd64: elsewhere, and without
-// cgo, each call returns ErrUnsupported. The package itself is tested, not proved.
+// By cgo, the package calls the library for C, which is formally verified. The package is for Linux on amd64. On other
+// systems, and without cgo, each call returns ErrUnsupported. The package itself is tested, not proved.
 //
-// Each call that takes a message takes it the same way: its bytes, its Form and its Limits. Limits that are nil or
-// zero are the default ones. A message that is invalid, or over a limit, is an *Error. errors.Is compares it with a
-// Kind such as ErrTooDeep.
+// Each call that takes a message takes the message's bytes, its Form, and the Limits. Limits that are nil or zero stand
+// for the default limits. For a message that is invalid or over a limit, a call returns an *Error. errors.Is compares
+// the error with a Kind such as ErrTooDeep.
 //
-// The bytes of a message must not change while a call runs: the library relies on that, and a change can make it read
-// outside of them. The calls may run in any goroutines at once, also on the same bytes. A Reader is for one goroutine
-// at a time.
+// The bytes of a message must not change while a call runs: the library relies on this, and a change can make the
+// library read outside of the bytes. Any goroutines may make calls at the same time, even on the same bytes. A Reader
+// is for one goroutine at a time.
 package capn
 
 import (
@@ -17,7 +17,7 @@ import (
 	"unsafe"
 )
 
-// Form is how the bytes of a message are written.
+// Form is the way in which the bytes of a message are written.
 type Form uint32
 
 const (
@@ -34,7 +34,7 @@ const (
 	Plain                // an object costs its size, as the traversal limit of the C++ implementation counts
 )
 
-// Style is how the text that Show returns is written.
+// Style is the way in which Show writes a message.
 type Style uint32
 
 const (
@@ -45,8 +45,8 @@ const (
 )
 
 // Limits are what a call accepts: the size of a message, the cost of reading it, and the depth of its objects, of which
-// the root has depth 1. A zero Limits, like a nil *Limits, is the default limits. Of any other each field is what it
-// says: begin with UsualLimits to change one.
+// the root has depth 1. A zero Limits, like a nil *Limits, stands for the default limits. In any other Limits, each
+// field is taken as it is, even if it is zero. To change one limit, begin with UsualLimits.
 type Limits struct {
 	// c/limits.txt: fields in go
 
@@ -66,7 +66,7 @@ func UsualLimits() Limits {
 
 // c/limits.txt ends
 
-// Checked is what reading a valid message costs.
+// Checked is the cost of reading a valid message.
 type Checked struct {
 	Paid   uint32 // the cost in words
 	Visits uint32 // the pointers that were followed, each as often as it was met: the root's is one, null ones count
@@ -84,10 +84,10 @@ type Figures struct {
 	Canonical     bool   // whether it has one segment, which is the canonical bytes of its value
 }
 
-// Version returns the version of the library that runs, as "1.1.0-dev".
+// Version returns the version of the library that runs, such as "1.1.0-dev".
 func Version() string { return callVersion() }
 
-// Check returns what reading one message costs, or an error if the message is invalid or over a limit.
+// Check returns the cost of reading one message, or an error if the message is invalid or over a limit.
 func Check(message []byte, form Form, limits *Limits) (Checked, error) {
 	status, r := callCheck(form, message, limitsOf(limits))
 	if status != ok {
@@ -105,23 +105,23 @@ func Survey(message []byte, form Form, limits *Limits) (Figures, error) {
 	return figures, nil
 }
 
-// Canonical returns the canonical bytes of one message. Two messages have the same ones if and only if they have the
-// same value, whichever encoder wrote them. There are at most 8 * (Budget + 1) of them. A message with a capability has
-// none: its error is ErrCapability.
+// Canonical returns the canonical bytes of one message. Two messages have the same canonical bytes if and only if they
+// have the same value, whichever encoder wrote them. There are at most 8 * (Budget + 1) canonical bytes. A message with
+// a capability has no canonical bytes: the error is ErrCapability.
 func Canonical(message []byte, form Form, limits *Limits) ([]byte, error) {
 	return AppendCanonical(nil, message, form, limits)
 }
 
 // AppendCanonical appends the canonical bytes of one message to dst, which it grows as append does. If there is an
-// error, it returns dst unchanged. The message may overlap dst, as in AppendCanonical(m[:0], m, ..): it stays
-// unchanged, and where it lies in what would be written, a new slice is returned.
+// error, AppendCanonical returns dst unchanged. The message may overlap dst, as in AppendCanonical(m[:0], m, ..). The
+// message stays unchanged: if the result would overwrite it, AppendCanonical returns a new slice.
 func AppendCanonical(dst, message []byte, form Form, limits *Limits) ([]byte, error) {
 	l := limitsOf(limits)
 	into := dst
 	if overlap(message, dst[len(dst):cap(dst)]) {
 		into = dst[:len(dst):len(dst)]
 	}
-	// As long as the words of the message: mostly enough.
+	// The buffer is as long as the words of the message, which is enough in most cases.
 	room, err := roomFor(message, form, l, 8, cap(into)-len(into))
 	if err != nil {
 		return dst, err
@@ -142,8 +142,8 @@ func overlap(one, other []byte) bool {
 	return from < to+uintptr(len(other)) && to < from+uintptr(len(one))
 }
 
-// Digest returns the SHA-256 of the canonical bytes of one message. It says nothing of the type of the value: don't
-// sign it alone, sign a statement that names the protocol and the type too.
+// Digest returns the SHA-256 of the canonical bytes of one message. The digest doesn't depend on the type of the value.
+// So don't sign the digest alone: sign a statement that also names the protocol and the type.
 func Digest(message []byte, form Form, limits *Limits) ([32]byte, error) {
 	digest, status, r := callHash(form, message, limitsOf(limits))
 	if status != ok {
@@ -152,9 +152,10 @@ func Digest(message []byte, form Form, limits *Limits) ([32]byte, error) {
 	return digest, nil
 }
 
-// Same reports whether two messages of the same form have the same value: whether their canonical bytes are equal. It
-// doesn't write these. It returns the error of the first message, as Canonical does, and if that has none the error of
-// the second: Which of an *Error says of which.
+// Same reports whether two messages of the same form have the same value: whether their canonical bytes are equal. Same
+// doesn't write these bytes. If the first message is rejected, Same returns its error, as Canonical does. Otherwise it
+// returns the error of the second message, if there is one. The field Which of the *Error says which message is
+// rejected.
 func Same(first, second []byte, form Form, limits *Limits) (bool, error) {
 	which, status, r := callSame(form, first, second, limitsOf(limits))
 	switch status {
@@ -170,9 +171,9 @@ func Same(first, second []byte, form Form, limits *Limits) (bool, error) {
 	return false, err
 }
 
-// IsCanonicalMessage reports whether one message is canonical: whether it has one segment, and that is the canonical
-// bytes of its value. Its form is Stream for a message with its segment table. It returns an error if the message is
-// invalid or over a limit, or has a capability and so no canonical bytes.
+// IsCanonicalMessage reports whether one message is canonical: whether it has one segment, and the segment is the
+// canonical bytes of the message's value. For a message with its segment table, the form is Stream. The call returns an
+// error if the message is invalid or over a limit, or has a capability and so no canonical bytes.
 func IsCanonicalMessage(message []byte, form Form, limits *Limits) (bool, error) {
 	if form == Bare {
 		return IsCanonicalWords(message, limits)
@@ -185,8 +186,8 @@ func IsCanonicalMessage(message []byte, form Form, limits *Limits) (bool, error)
 }
 
 // IsCanonicalWords reports whether the words of a single segment, without a segment table, are the canonical bytes of
-// their value. It returns an error if they have none. Don't pass it a message with its segment table: nearly every one
-// of one segment passes, canonical or not. Ask IsCanonicalMessage about such a message.
+// their value. The call returns an error if the words have no canonical bytes. Don't pass a message with its segment
+// table: nearly every message of one segment passes, canonical or not. Call IsCanonicalMessage for such a message.
 func IsCanonicalWords(words []byte, limits *Limits) (bool, error) {
 	status, r := callIsCanonical(words, limitsOf(limits))
 	if status != ok && status != notCanonical {
@@ -204,12 +205,12 @@ func IsCanonicalIn(message []byte, form Form, limits *Limits) (bool, error) {
 
 // IsCanonical is IsCanonicalWords.
 //
-// Deprecated: Use IsCanonicalMessage for a message with its segment table, which this call takes for words: nearly
-// every one of one segment passes. Use IsCanonicalWords for the words of a segment without a table.
+// Deprecated: Use IsCanonicalMessage for a message with its segment table, which this call reads as words: nearly every
+// message of one segment passes. Use IsCanonicalWords for the words of a segment without a table.
 func IsCanonical(bytes []byte, limits *Limits) (bool, error) { return IsCanonicalWords(bytes, limits) }
 
-// Show returns the text that the program capn show prints of one message, in a style. It may be far longer than the
-// message, so set limits.
+// Show returns the text that the program capn show prints for one message, in a style. The text may be far longer than
+// the message, so set limits.
 func Show(message []byte, form Form, limits *Limits, style Style) (string, error) {
 	l := limitsOf(limits)
 	room := 0
@@ -224,7 +225,7 @@ func Show(message []byte, form Form, limits *Limits, style Style) (string, error
 	return string(text), err
 }
 
-// Pack returns words packed. There must be whole words.
+// Pack packs words, and returns the packed bytes. The number of bytes in words must be a multiple of 8.
 func Pack(words []byte) ([]byte, error) {
 	packed, err := filled(nil, len(words)/8*10, func(out []byte) (uint32, report) { return callPack(words, out) })
 	var refused *Error
@@ -240,8 +241,9 @@ func Unpack(packed []byte, maxWords uint32) ([]byte, error) {
 	return filled(nil, room, func(out []byte) (uint32, report) { return callUnpack(packed, maxWords, out) })
 }
 
-// A message that is held in segments: each has whole words, and the first one begins with the root. These calls copy
-// the segments behind their table, once they are within MessageWords, and return what those above do.
+// The calls below take a message in segments. Each segment has whole words, and the first one begins with the root. If
+// the segments are within MessageWords, a call copies them behind their segment table, and returns what the call above
+// returns for the copy.
 
 // CheckSegments is Check of a message that is held in segments.
 func CheckSegments(segments [][]byte, limits *Limits) (Checked, error) {
@@ -289,11 +291,11 @@ const (
 	mostSegments = 4096
 	// The most words of a bare message.
 	bareWords = 1<<28 + 1
-	// The bytes from which on a message is checked before a buffer is made for its answer.
+	// From this number of bytes on, a message is checked before a buffer is made for the result.
 	largeRoom = 1 << 20
 )
 
-// report is what a call reports with its status.
+// report has the numbers that a call reports with its status.
 type report struct {
 	length, at                  uint64
 	paid, visits, segment, word uint32
@@ -306,10 +308,10 @@ func limitsOf(limits *Limits) Limits {
 	return *limits
 }
 
-// roomFor returns how long a buffer an answer needs that has so many bytes for each word of a message: no longer than
-// the words of the message and the limits allow, and, where it is large and longer than the buffer that is there, no
-// longer than the cost of the message allows. A message that is invalid, or over a limit, is then an error before a
-// buffer is made.
+// roomFor returns the length of a buffer for a result that has perWord bytes for each word of a message. It is no
+// longer than the words of the message and the limits allow. A large buffer that is longer than the one that is there
+// is also no longer than the cost of the message allows. For this, the message is checked, so a message that is invalid
+// or over a limit is an error before a buffer is made.
 func roomFor(message []byte, form Form, l Limits, perWord uint64, there int) (int, error) {
 	words, longest := uint64(len(message)/8), uint64(l.MessageWords)+tableWords
 	switch form {
@@ -336,12 +338,12 @@ func roomFor(message []byte, form Form, l Limits, perWord uint64, there int) (in
 	return int(perWord * words), nil
 }
 
-// filled appends the answer of a call to dst. It has room for so many bytes at first and, if the answer doesn't fit,
-// for as many as the call reports. A buffer grows as append grows it, so that many answers in one buffer take linear
-// time; and an answer that is much shorter than a buffer made for it doesn't keep that.
+// filled appends the result of a call to dst. The buffer has room for some bytes at first and, if the result doesn't
+// fit, for as many bytes as the call reports. A buffer grows as append grows it, so many results in one buffer take
+// linear time. A result that is much shorter than the buffer that was made for it doesn't keep this buffer.
 func filled(dst []byte, room int, call func([]byte) (uint32, report)) ([]byte, error) {
 	begin, grown, hasGrown := len(dst), dst, false
-	// The second length is exact, or enough: a third one is of a message that changes meanwhile.
+	// The second length is enough. A third length is needed only if the message changes during the calls.
 	for tries := 0; tries < 3; tries++ {
 		if cap(grown)-begin < room {
 			grown, hasGrown = append(dst, make([]byte, room)...)[:begin], true
@@ -363,9 +365,9 @@ func filled(dst []byte, room int, call func([]byte) (uint32, report)) ([]byte, e
 	return dst, failure(noRoom, report{})
 }
 
-// framedWithin returns the segments behind their table. Limits are looked at before anything is copied.
+// framedWithin returns the segments behind their segment table. It tests the limits before it copies anything.
 func framedWithin(segments [][]byte, l Limits) ([]byte, error) {
-	// Of no bytes the library tests the limits alone.
+	// For no bytes, the library tests only the limits.
 	if status, r := callFirst(nil, l); Kind(status) != ErrFrameEmpty {
 		return nil, failure(status, r)
 	}
@@ -384,7 +386,7 @@ func framedWithin(segments [][]byte, l Limits) ([]byte, error) {
 	return framed(segments)
 }
 
-// framed has the segments behind their table.
+// framed returns the segments behind their segment table.
 func framed(segments [][]byte) ([]byte, error) {
 	if len(segments) == 0 {
 		return nil, &Error{Kind: ErrFrameEmpty}

@@ -12,25 +12,25 @@ var ErrMemory = errors.New("capn: out of memory")
 // ErrUnsupported is returned by each call if the package was built without cgo, or not for Linux on amd64.
 var ErrUnsupported = errors.New("capn: the library is for linux and amd64, and needs cgo")
 
-// ErrForm is returned if the form is none of the three.
+// ErrForm is returned if the form isn't one of the three forms.
 var ErrForm = errors.New("capn: the form is none of the three")
 
-// ErrLimits is returned if a limit is out of its range, or the tariff is none of the two.
+// ErrLimits is returned if a limit is out of its range, or if the tariff isn't one of the two tariffs.
 var ErrLimits = errors.New("capn: a limit is out of its range")
 
-// ErrStyle is returned if the style is none of the four.
+// ErrStyle is returned if the style isn't one of the four styles.
 var ErrStyle = errors.New("capn: the style is none of the four")
 
-// ErrConcurrent is returned by Next of a Reader if another call of it runs, in another goroutine or in the Read that it
-// called. The call that returns it has changed nothing, and has read no byte of the stream.
+// ErrConcurrent is returned by Next of a Reader if another call of Next runs, in another goroutine or in the Read that
+// Next called. The call that returns ErrConcurrent has changed nothing, and has read no byte of the stream.
 var ErrConcurrent = errors.New("capn: two calls of Next at once")
 
-// ErrBadReadCount is in the *ReadError that Next returns if the io.Reader returned an impossible count: one below 0, or
-// more bytes than it had room for. It ends the stream, since nobody knows then which bytes were read.
+// ErrBadReadCount is in the *ReadError that Next returns if the io.Reader returned an impossible count: a number below
+// 0, or more bytes than there was room for. This error ends the stream, since nobody knows which bytes were read.
 var ErrBadReadCount = errors.New("capn: Read returned an impossible count")
 
-// StatusError is a fault of the package or its caller, not of a message: the library returned a status that the call
-// doesn't have. The bytes were changed while the call ran, or the library is newer than the package.
+// StatusError is a fault of the package or its caller, and not of a message: the library returned a status that the
+// call doesn't have. Either the bytes were changed while the call ran, or the library is newer than the package.
 type StatusError struct {
 	Status uint32
 }
@@ -40,7 +40,7 @@ func (e *StatusError) Error() string {
 }
 
 // ReadError is an error of the io.Reader below a Reader, such as a timeout, with the place in the stream. errors.Is and
-// errors.As find what is below it.
+// errors.As find the error of the io.Reader.
 type ReadError struct {
 	Message int64 // which message was being read, from 1 on
 	Offset  int64 // where it begins
@@ -60,7 +60,7 @@ func (e *ReadError) Timeout() bool {
 	return errors.As(e.Err, &below) && below.Timeout()
 }
 
-// Kind is what is wrong with a message. It is an error that errors.Is compares others with.
+// Kind is the kind of an error of a message. A Kind is itself an error, with which errors.Is compares other errors.
 type Kind uint32
 
 const (
@@ -123,7 +123,7 @@ var names = map[Kind]string{
 	// c/statuses.txt ends
 }
 
-// String is the name of a kind, as "Range".
+// String returns the name of a kind, such as "Range".
 func (k Kind) String() string {
 	if name, found := names[k]; found {
 		return name
@@ -133,13 +133,13 @@ func (k Kind) String() string {
 
 func (k Kind) Error() string { return "capn: " + k.String() }
 
-// Meaning is what a kind means in a few words, as "an object lies outside of its segment". It is empty if the package
-// was built without the library.
+// Meaning returns the meaning of a kind in a few words, such as "an object lies outside of its segment". The text is
+// empty if the package was built without the library.
 func (k Kind) Meaning() string { return callStatusText(uint32(k)) }
 
 func (k Kind) isOfWalk() bool { return k >= ErrNoRoot && k <= ErrOverBudget }
 
-// Error is why a message is rejected: it is invalid, or over a limit.
+// Error says why a message is rejected: the message is invalid, or over a limit.
 type Error struct {
 	Kind          Kind
 	At            uint64 // the offset, count or index of a kind that has one, else 0
@@ -151,7 +151,7 @@ type Error struct {
 	ofWords       bool
 }
 
-// Text is what the program capn prints of the error, without what comes before the colon.
+// Text returns the text of the error as the program capn prints it, without the part before the colon.
 func (e *Error) Text() string {
 	switch {
 	case e.Kind.isOfWalk():
@@ -189,15 +189,15 @@ func (e *Error) Error() string {
 	return "capn: " + e.Text()
 }
 
-// Unwrap returns the kind, so that errors.Is(err, capn.ErrTooDeep) says whether it is that one.
+// Unwrap returns the kind. So errors.Is(err, capn.ErrTooDeep) says whether the error is of this kind.
 func (e *Error) Unwrap() error { return e.Kind }
 
-// Is says that what is truncated is an unexpected end: errors.Is(err, io.ErrUnexpectedEOF).
+// Is returns true for io.ErrUnexpectedEOF if the message is truncated.
 func (e *Error) Is(target error) bool {
 	return target == io.ErrUnexpectedEOF && (e.Kind == ErrFrameCut || e.Kind == ErrPackedCut)
 }
 
-// failure is the error of a status that is not ok.
+// failure returns the error for a status other than ok.
 func failure(status uint32, r report) error {
 	switch status {
 	case unsupported:
@@ -223,5 +223,6 @@ func failure(status uint32, r report) error {
 	return e
 }
 
-// unsupported is the status of each call of a package without the library. The library has no such status.
+// unsupported is the status that each call returns if the package was built without the library. The library has no
+// such status.
 const unsupported = 1 << 31

@@ -36,7 +36,7 @@ var kindNames = [...]string{
 	"null", "struct", "void", "bits", "bytes", "u16", "u32", "u64", "pointers", "rows", "capability",
 }
 
-// String is the word that `capn show` has for a kind.
+// String returns the word that `capn show` prints for a kind.
 func (k ValueKind) String() string {
 	if int(k) < len(kindNames) {
 		return kindNames[k]
@@ -44,8 +44,8 @@ func (k ValueKind) String() string {
 	return fmt.Sprintf("ValueKind(%d)", uint32(k))
 }
 
-// Index is a valid message within limits, whose pointers are listed. Its values are read in place, and no pointer is
-// followed again. The bytes of the message must not change as long as the index or a value of it is used. Several
+// Index is a valid message within limits, with a list of its pointers. Its values are read in place, without following
+// a pointer again. The bytes of the message must not change as long as the index or one of its values is used. Several
 // goroutines may read one index at once.
 type Index struct {
 	bytes   []byte
@@ -54,11 +54,11 @@ type Index struct {
 }
 
 // NewIndex returns the index of one message. Packed bytes are unpacked first. An index takes 24 bytes for each pointer
-// that is followed; there are at most Budget + 1.
+// that is followed, and there are at most Budget + 1 such pointers.
 func NewIndex(message []byte, form Form, limits *Limits) (*Index, error) {
 	l := limitsOf(limits)
 	if form == Packed {
-		// Wrong limits are an error before the bytes are unpacked: of no bytes the library tests the limits alone.
+		// Wrong limits are an error before the bytes are unpacked. For no bytes, the library tests only the limits.
 		if status, r := callFirst(nil, l); Kind(status) != ErrFrameEmpty {
 			return nil, failure(status, r)
 		}
@@ -68,7 +68,7 @@ func NewIndex(message []byte, form Form, limits *Limits) (*Index, error) {
 		}
 		message, form = words, Stream
 	}
-	// Mostly there are fewer pointers than words.
+	// In most messages there are fewer pointers than words.
 	entries := make([]entry, firstEntries(len(message)))
 	status, r := callIndex(form, message, l, entries)
 	if status == noRoom {
@@ -85,7 +85,7 @@ func NewIndex(message []byte, form Form, limits *Limits) (*Index, error) {
 	return &Index{message, found, Checked{r.paid, r.visits}}, nil
 }
 
-// firstEntries is how many entries are made at first for a message of so many bytes.
+// firstEntries returns the number of entries that are made at first for a message of the given number of bytes.
 func firstEntries(size int) int {
 	if size < 8*64 {
 		return size/8 + 1
@@ -93,10 +93,10 @@ func firstEntries(size int) int {
 	return 64
 }
 
-// Checked is what reading the message costs.
+// Checked returns the cost of reading the message.
 func (x *Index) Checked() Checked { return x.checked }
 
-// Root is the object that the root pointer refers to.
+// Root returns the object that the root pointer refers to.
 func (x *Index) Root() Value { return x.value(0) }
 
 // Value is the object that a pointer refers to, or an element of a list of structs, whose kind is Struct. The zero
@@ -125,10 +125,10 @@ func (x *Index) value(at uint32) Value {
 	return Value{x, ValueKind(e.kind), e.count, e.words, e.slots, 0, e.span == below+1, e.offset, at + 1}
 }
 
-// Kind is what the value is.
+// Kind returns the kind of the value.
 func (v Value) Kind() ValueKind { return v.kind }
 
-// Len is the number of elements of a list, else 0.
+// Len returns the number of elements of a list, or 0 for any other value.
 func (v Value) Len() int {
 	if v.kind < Voids || v.kind > Rows {
 		return 0
@@ -136,13 +136,15 @@ func (v Value) Len() int {
 	return int(v.count)
 }
 
-// DataWords is the number of data words of a struct, or of each struct of a list, else 0.
+// DataWords returns the number of data words of a struct, or of each struct of a list of structs. It returns 0 for any
+// other value.
 func (v Value) DataWords() int { return int(v.words) }
 
-// NumSlots is the number of pointers of a struct, or of each struct of a list, else 0.
+// NumSlots returns the number of pointers of a struct, or of each struct of a list of structs. It returns 0 for any
+// other value.
 func (v Value) NumSlots() int { return int(v.slots) }
 
-// CapabilityIndex is the index of a capability, else 0.
+// CapabilityIndex returns the index of a capability, or 0 for any other value.
 func (v Value) CapabilityIndex() uint32 {
 	if v.kind != Capability {
 		return 0
@@ -150,11 +152,11 @@ func (v Value) CapabilityIndex() uint32 {
 	return v.count
 }
 
-// next is the entry beside one.
+// next returns the entry of the next pointer in the same object.
 func (x *Index) next(at uint32) uint32 { return at + x.entries[at].span }
 
-// Slot is the object that pointer i of a struct refers to: a null Value where the struct has fewer. It takes as long as
-// there are pointers before it.
+// Slot returns the object that pointer i of a struct refers to. If the struct has fewer pointers, it returns a null
+// Value. The time that it takes grows with the number of pointers before i.
 func (v Value) Slot(i int) Value {
 	if v.kind != Struct || i < 0 || i >= int(v.slots) {
 		return Value{}
@@ -207,7 +209,7 @@ func (v Value) Rows() []Value {
 	return found
 }
 
-// rowSize is how many bytes each struct of a list of structs has.
+// rowSize returns the number of bytes of each struct of a list of structs.
 func (v Value) rowSize() uint64 { return 8 * (uint64(v.words) + uint64(v.slots)) }
 
 // Bytes are the bytes of a list of bytes, in the message itself: nil of another value.

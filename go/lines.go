@@ -14,7 +14,7 @@ const (
 	linePadding = 2
 )
 
-// LineKind is what the words of a Line are.
+// LineKind is the kind of the words of a Line.
 type LineKind uint32
 
 const (
@@ -30,7 +30,7 @@ const (
 
 var lineKindNames = [...]string{"pointer", "null", "pad", "tag", "data", "list", "slack", "unreached"}
 
-// String is the word that `capn annotate` has for a kind.
+// String returns the word that `capn annotate` prints for a kind.
 func (k LineKind) String() string {
 	if int(k) < len(lineKindNames) {
 		return lineKindNames[k]
@@ -59,7 +59,8 @@ type Line struct {
 // the order of the words. The segment table has no line. A message with a capability has lines, too.
 func Annotate(message []byte, form Form, limits *Limits) ([]Line, error) {
 	l := limitsOf(limits)
-	// Mostly enough for a small message. Of a larger one the first call says how many lines there are.
+	// There is room for the lines of most small messages. For a larger message, the first call says how many lines there
+	// are.
 	lines := make([]line, 256)
 	status, r := callAnnotate(form, message, l, lines)
 	if status == noRoom {

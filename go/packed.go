@@ -17,7 +17,8 @@ type unpacker struct {
 	taken uint64 // packed bytes that were unpacked
 }
 
-// maxGathered is how many words are gathered at once. A group has at most 256 words, and 2,050 bytes.
+// maxGathered is the greatest number of words that are gathered at once. A group has at most 256 words, and 2,050
+// bytes.
 const maxGathered = 4096
 
 func (u *unpacker) Read(p []byte) (int, error) {
@@ -38,7 +39,7 @@ func (u *unpacker) Read(p []byte) (int, error) {
 	return count, nil
 }
 
-// gather reads groups until they have so many words.
+// gather reads groups until they have the given number of words.
 func (u *unpacker) gather(words int) error {
 	if words > maxGathered {
 		words = maxGathered
@@ -91,7 +92,8 @@ func readOnce(from io.Reader, p []byte) (int, error) {
 	return count, err
 }
 
-// packedWords is how many words some packed bytes have, or 0 if they are truncated or have more words than most.
+// packedWords returns the number of words that some packed bytes have. It returns 0 if the bytes are truncated or have
+// more words than most.
 func packedWords(packed []byte, most uint64) uint64 {
 	words := uint64(0)
 	for len(packed) > 0 {
@@ -107,7 +109,7 @@ func packedWords(packed []byte, most uint64) uint64 {
 	return words
 }
 
-// groupSize is how many bytes the group has at least that begins so.
+// groupSize returns the least number of bytes of a group that begins with the given bytes.
 func groupSize(text []byte) int {
 	switch {
 	case len(text) == 0:
@@ -122,7 +124,7 @@ func groupSize(text []byte) int {
 	return 10 + 8*int(text[9])
 }
 
-// groupWords is how many words a whole group has.
+// groupWords returns the number of words of a complete group.
 func groupWords(text []byte) int {
 	switch text[0] {
 	case 0:

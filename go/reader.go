@@ -5,11 +5,11 @@ import (
 	"sync/atomic"
 )
 
-// Reader reads a stream message by message. It reads no byte after the message that it returns, and waits for none. So
-// let it read from a bufio.Reader where each read is a call of the system.
+// Reader reads a stream message by message. It reads no byte after the message that it returns, and doesn't wait for
+// one. So if each read of the stream is a system call, put a bufio.Reader between the stream and the Reader.
 //
-// It is for one goroutine at a time. A Next while another one runs is ErrConcurrent, and changes nothing. Number, Start
-// and Offset may be called at any time.
+// A Reader is for one goroutine at a time. If Next is called while another Next runs, it returns ErrConcurrent and
+// changes nothing. Number, Start and Offset may be called at any time.
 type Reader struct {
 	read   func([]byte) (int, error)
 	limits Limits
@@ -29,8 +29,8 @@ const (
 	most  = 65536 // bytes of memory that a frame has that has merely been announced
 )
 
-// NewReader returns a reader of a stream that is not packed. MessageWords of the limits, of which nil are the default
-// ones, bounds each message; nothing else of a message is checked.
+// NewReader returns a reader of a stream that isn't packed. MessageWords of the limits bounds each message, and nothing
+// else of a message is checked. If limits is nil, the default limits are taken.
 func NewReader(from io.Reader, limits *Limits) *Reader {
 	return newReader(func(p []byte) (int, error) { return readOnce(from, p) }, limits)
 }
@@ -46,10 +46,10 @@ func newReader(read func([]byte) (int, error), limits *Limits) *Reader {
 
 // Next returns the next message, with its segment table. The bytes are the caller's.
 //
-// At the end of the stream it returns io.EOF, and at the end of one that is truncated an *Error that is
+// At the end of the stream, Next returns io.EOF. At the end of a truncated stream, it returns an *Error that is
 // io.ErrUnexpectedEOF by errors.Is. An *Error has the Message and its Offset, and ends the stream, since nothing says
-// where the next message would begin: every later call returns it again. An error of the io.Reader, such as a timeout,
-// is a *ReadError with the same places. The next call then goes on where this one was.
+// where the next message would begin. Every later call returns the same error again. An error of the io.Reader, such as
+// a timeout, is a *ReadError, which also has these two fields. The next call then continues at the same place.
 //
 // Next doesn't check what is in a message. After a message that a call such as Check rejects, it returns the next one.
 func (r *Reader) Next() ([]byte, error) {
@@ -81,19 +81,20 @@ func (r *Reader) Next() ([]byte, error) {
 	}
 }
 
-// Number is how many messages Next has returned: the number of the last one.
+// Number returns how many messages Next has returned, which is also the number of the last one.
 func (r *Reader) Number() int64 { return r.number.Load() }
 
-// Start is where the message begins in the stream that Next returned last, and 0 before it. Of a packed stream it
-// counts the bytes that are unpacked.
+// Start returns the offset in the stream of the message that Next returned last, or 0 before the first message. In a
+// packed stream, the offset counts the unpacked bytes.
 func (r *Reader) Start() int64 { return r.start.Load() }
 
-// Offset is where the next message begins in the stream: after an error of Next where that message does, and at the end
-// how long the stream is. Of a packed stream it counts the bytes that are unpacked.
+// Offset returns the offset in the stream at which the next message begins. After an error of Next, this is the offset
+// of the rejected message. At the end, it is the length of the stream. In a packed stream, the offset counts the
+// unpacked bytes.
 func (r *Reader) Offset() int64 { return r.offset.Load() }
 
-// Locate returns an error about the message that Next returned last with its place: of an *Error, such as Check
-// returns, a copy with the Message and the Offset. It returns every other error as it is.
+// Locate adds the place of the message that Next returned last to an error about this message. For an *Error, such as
+// Check returns, it returns a copy with the Message and the Offset. It returns every other error as it is.
 func (r *Reader) Locate(err error) error {
 	refused, is := err.(*Error)
 	if !is {
@@ -104,7 +105,7 @@ func (r *Reader) Locate(err error) error {
 	return &located
 }
 
-// fill reads until there are as many bytes as are needed. Memory grows as they come.
+// fill reads until there are as many bytes as are needed. The memory grows as the bytes come.
 func (r *Reader) fill() error {
 	wanted := r.need
 	if wanted < head {

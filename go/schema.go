@@ -97,7 +97,7 @@ type Numbers struct {
 	bits, step, count int
 }
 
-// Len is how many numbers there are.
+// Len returns the number of numbers.
 func (n Numbers) Len() int { return n.count }
 
 // At returns number i, without sign: convert it, as in int16(n.At(i)) or math.Float32frombits(uint32(n.At(i))). A bit
@@ -181,7 +181,7 @@ type Items struct {
 	item         Value
 }
 
-// Len is how many elements are left.
+// Len returns the number of elements that are left.
 func (l *Items) Len() int { return l.count }
 
 // Next goes on to the next element, and reports whether there is one.

@@ -8,11 +8,11 @@ import (
 )
 
 // Way is the path from the root of a message to a pointer. In a struct a number selects a pointer, and in a list of
-// pointers an element. In a list of structs it selects an element, and the next number a pointer of that. The path of
-// the root has no numbers. A nil Way is no path at all.
+// pointers an element. In a list of structs, a number selects an element, and the next number selects a pointer of this
+// element. The path of the root has no numbers. A nil Way is no path at all.
 type Way []uint32
 
-// String is what capn show --at takes, such as "0.2", or "root".
+// String returns the path as `capn show --at` takes it, such as "0.2", or "root".
 func (w Way) String() string {
 	switch {
 	case w == nil:
@@ -43,7 +43,7 @@ func RefusalWay(message []byte, form Form, limits *Limits) (Way, error) {
 	return Way(way[:r.length/4]), failure(status, r)
 }
 
-// roomForWay has room for every path within limits.
+// roomForWay has room for every path within the limits.
 func roomForWay(l Limits) []uint32 {
 	depth := l.Depth
 	if depth > maxDepth {
@@ -52,10 +52,10 @@ func roomForWay(l Limits) []uint32 {
 	return make([]uint32, 2*depth)
 }
 
-// maxDepth is the most that the limit of depth may be.
+// maxDepth is the greatest nesting limit.
 const maxDepth = 256
 
-// DepartureKind is why a message is not canonical.
+// DepartureKind says why a message isn't canonical.
 type DepartureKind uint32
 
 const (
@@ -66,7 +66,7 @@ const (
 	DepartsAfter                           // words come after the canonical bytes
 )
 
-// Owner is what a word of canonical bytes is part of, beside the path to a pointer.
+// Owner is the part of the canonical bytes that a word belongs to. A path leads to the pointer that is meant.
 type Owner uint32
 
 const (
@@ -76,7 +76,7 @@ const (
 	OwnerLastWord       // the last word of the list of bits, bytes or numbers that the pointer refers to
 )
 
-// String is the word that capn explain has for an owner.
+// String returns the word that `capn explain` prints for an owner.
 func (o Owner) String() string {
 	switch o {
 	case OwnerNone:
@@ -132,13 +132,13 @@ func FindDeparture(message []byte, form Form, limits *Limits) (Departure, error)
 	return found, nil
 }
 
-// departed is a Departure as the library has it.
+// departed is a Departure as the library writes it.
 type departed struct {
 	is, canonical                     uint64
 	kind, owner, word, count, numbers uint32
 }
 
-// String is what capn explain writes after "canonical: ", of a message at the start of its input.
+// String returns the text that `capn explain` prints after "canonical: ", for a message at the start of its input.
 func (d Departure) String() string {
 	ofPointer := d.Owner == OwnerPointer
 	switch d.Kind {
@@ -159,7 +159,7 @@ func (d Departure) String() string {
 		written(d.CanonicalWord, ofPointer), d.Owner, preposition, d.Way)
 }
 
-// written is a word by its bytes, in the order in which they lie, and if it is a pointer what that says.
+// written returns the bytes of a word as text, in their order. For a pointer, it also describes the pointer.
 func written(word uint64, isPointer bool) string {
 	var digits [8]byte
 	for i := range digits {
@@ -171,7 +171,7 @@ func written(word uint64, isPointer bool) string {
 	return hex.EncodeToString(digits[:])
 }
 
-// pointerText is what a word says as a pointer.
+// pointerText returns a text that describes a word as a pointer.
 func pointerText(word uint64) string {
 	low, high := uint32(word), uint32(word>>32)
 	offset := int32(low) >> 2

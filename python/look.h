@@ -1,5 +1,5 @@
-/* A look at the bytes of a stream: where the whole messages end that come first, by one call for all of them. It is a
- * loop over the library's calls, and keeps nothing. */
+/* Looks at the bytes of a stream. One call finds where the complete messages at the start of the bytes end. The calls
+ * here are loops over the library's calls, and keep nothing. */
 #include "capn.h"
 
 #include <errno.h>
@@ -11,14 +11,14 @@
 enum { CAPN_LOOK_MOST = 128 };
 
 typedef struct {
-    uint32_t count;               /* how many messages there are */
-    size_t end, take;             /* where the last one ends, as below, or 0 */
-    size_t ends[CAPN_LOOK_MOST];  /* where each ends, in the unpacked bytes */
-    size_t takes[CAPN_LOOK_MOST]; /* of a packed stream: and in the packed ones */
+    uint32_t count;               /* the number of messages */
+    size_t end, take;             /* the ends of the last message, as below, or 0 */
+    size_t ends[CAPN_LOOK_MOST];  /* the end of each message in the unpacked bytes */
+    size_t takes[CAPN_LOOK_MOST]; /* the end of each message in the packed bytes of a packed stream */
 } capn_look;
 
-/* Of a stream. The answer is the status of the last call, and the report is that call's: of the frame after those that
- * are whole. Fewer than 4 bytes are left alone. */
+/* Looks at a stream. Returns the status and the report of the last call, which is about the message after the complete
+ * ones. Fewer than 4 bytes are left alone. */
 static capn_status capn_look_at(const uint8_t *bytes, size_t size, const capn_limits *limits, capn_look *look,
                                 capn_report *report) {
     capn_status status = CAPN_OK;
@@ -34,10 +34,10 @@ static capn_status capn_look_at(const uint8_t *bytes, size_t size, const capn_li
     return status;
 }
 
-/* Of a packed stream: at most `most` messages, which are unpacked into the room. Only a message that ends where a group
- * does is one of them. The answer is CAPN_OK, the status of a call that refused, or says why there is no further one:
- * CAPN_PACKED_CUT, the text ends before it does; CAPN_PACKED_TOO_LONG, it ends within a group, or has no room. The
- * `length` of the report is then how many bytes it has at least. */
+/* Looks at a packed stream, and unpacks at most `most` messages into the room. Stops before a message that doesn't end
+ * where a group of packed bytes ends. Returns CAPN_OK, or the status of a call that refused, or why there is no further
+ * message: CAPN_PACKED_CUT if the text ends before the message does, or CAPN_PACKED_TOO_LONG if the message ends within
+ * a group or doesn't fit into the room. The `length` of the report is then the least number of bytes of the message. */
 static capn_status capn_look_at_packed(const uint8_t *text, size_t size, const capn_limits *limits, uint8_t *out,
                                        size_t room, uint32_t most, capn_look *look, capn_report *report) {
     look->count = 0;
@@ -65,20 +65,20 @@ static capn_status capn_look_at_packed(const uint8_t *text, size_t size, const c
     return CAPN_OK;
 }
 
-/* The first message of a packed text: where it is unpacked to, and what was found of it. */
+/* The first message of a packed text: the buffer into which it is unpacked, and what was found out about it. */
 typedef struct {
     capn_limits limits;
     uint8_t *out;
-    size_t room, length, take; /* of the message, in the unpacked bytes and in the packed ones */
-    size_t got;                /* how many bytes were unpacked of one that is cut, from `take` packed ones */
+    size_t room, length, take; /* `length` and `take`: the unpacked and the packed bytes of the message */
+    size_t got;                /* of a truncated message, the number of bytes unpacked from `take` packed bytes */
     capn_status status;
     capn_report report;
-    uint8_t table[8]; /* the last one of one segment, and how many bytes its frame has */
-    size_t size;
+    uint8_t table[8]; /* the last segment table of one segment */
+    size_t size;      /* the number of bytes of the message with this table */
 } capn_packed_one;
 
-/* The same of one message; the answer is how many packed bytes it has, or 0. If it is cut, this goes
- * on with a text that begins with the one before, and unpacks nothing twice. */
+/* Goes on to look at one message. Returns the number of its packed bytes, or 0. If the message is cut, the next call
+ * gets a text that begins with the present one, and unpacks nothing twice. */
 static size_t capn_look_on(const uint8_t *text, size_t size, capn_packed_one *one) {
     capn_report *const report = &one->report;
     for (;;) {
@@ -91,7 +91,7 @@ static size_t capn_look_on(const uint8_t *text, size_t size, capn_packed_one *on
             if (one->status == CAPN_OK) one->status = CAPN_PACKED_CUT;
             return 0;
         }
-        /* What a frame of one segment needs is in its table, which is often that of the message before. */
+        /* The segment table of one segment says how long the frame is. It is often the table of the message before. */
         if (one->size > 8 && memcmp(one->out, one->table, 8) == 0) {
             if (one->got == one->size) break;
             one->length = one->size;
@@ -114,23 +114,24 @@ static size_t capn_look_on(const uint8_t *text, size_t size, capn_packed_one *on
     return one->take;
 }
 
-/* The same of a text at whose start the message begins. */
+/* Looks at a text at whose start the message begins. */
 static size_t capn_look_at_one(const uint8_t *text, size_t size, capn_packed_one *one) {
     one->got = one->take = 0;
     one->length = 8;
     return capn_look_on(text, size, one);
 }
 
-/* A file that the system has, as a pipe is: the limits, and what was read of it. */
+/* A file of the system, such as a pipe: the limits, and the bytes that were read. */
 typedef struct {
     capn_limits limits;
-    size_t have;  /* the bytes of a message that has begun, */
-    size_t whole; /* or of one that is whole; it is the caller's to hand it out and to set this to 0 */
+    size_t have;  /* the number of bytes of a message that has begun */
+    size_t whole; /* or the length of a complete message; the caller hands the message out, and sets this to 0 */
     uint8_t out[65536];
 } capn_raw;
 
-/* Reads the next message off a file, by two of the system's reads if that has one segment; unless it is whole then, it
- * isn't there yet, or not read so. A call goes on with the bytes that there are. */
+/* Reads the next message of a file, by two reads of the system if the message has one segment. If the message isn't
+ * complete then, some of its bytes haven't come yet, or it has to be read in another way. The next call goes on with
+ * the bytes that are there. */
 static void capn_read_one(int file, capn_raw *raw) {
     size_t have = raw->have, need = 8;
     capn_report report;
@@ -153,9 +154,10 @@ static void capn_read_one(int file, capn_raw *raw) {
     raw->have = have;
 }
 
-/* A pipe of packed messages: a second one, by which it is looked into, how many bytes are looked at, those that were
- * read and are not as they were seen, and how long the message is that was read: it is the caller's to hand that out,
- * and to set this to 0. */
+/* A pipe of packed messages. `second` is another pipe, through which the calls look into it. `most` is the number of
+ * bytes that they look at. `came` has the bytes that were read and that differ from those that were seen, and `have` is
+ * the number of these bytes. `whole` is the length of the message that was read. The caller hands the message out, and
+ * sets `whole` to 0. */
 typedef struct {
     capn_packed_one one;
     int second[2];
@@ -179,8 +181,8 @@ static void capn_pipe_end(capn_pipe *pipe) {
     pipe->second[0] = pipe->second[1] = -1;
 }
 
-/* What a pipe has, at most so many bytes, which stay in it: they are put into the second pipe too, and all read from
- * that. The answer is how many they are, or 0, if there are none, or the system can't. */
+/* Copies at most `most` bytes of a pipe into `seen`. The bytes stay in the pipe: they are also put into the second
+ * pipe, and read from there. Returns their number, or 0 if there are none or if the system can't do this. */
 static size_t capn_look_into(int file, capn_pipe *pipe, size_t most, unsigned how) {
     size_t have = 0;
     if (pipe->second[0] < 0 && pipe2(pipe->second, O_CLOEXEC) != 0) return 0;
@@ -196,14 +198,14 @@ static size_t capn_look_into(int file, capn_pipe *pipe, size_t most, unsigned ho
     return have;
 }
 
-/* The same of bytes that are there now. */
+/* Copies the bytes of a pipe that are there now, without waiting. */
 static size_t capn_peek(int file, capn_pipe *pipe) {
     return capn_look_into(file, pipe, sizeof pipe->seen, SPLICE_F_NONBLOCK);
 }
 
-/* Reads the next message off a pipe, if all of it is there and it ends where a group does, by three of the system's
- * calls; where there is nothing, it waits. Unless it is whole then, it has to be read otherwise, and nothing of it was
- * read but what `came` has. */
+/* Reads the next message of a pipe by three calls of the system, if all of the message is there, and it ends where a
+ * group of packed bytes ends. Waits if the pipe has no bytes. If the message isn't complete then, it has to be read in
+ * another way, and only the bytes in `came` were read of it. */
 static void capn_read_packed(int file, capn_pipe *pipe) {
     size_t seen, taken;
     for (unsigned how = 0;; how = SPLICE_F_NONBLOCK) {
@@ -216,7 +218,7 @@ static void capn_read_packed(int file, capn_pipe *pipe) {
     }
     const ssize_t came = read(file, pipe->came, taken);
     if (came == (ssize_t)taken && memcmp(pipe->came, pipe->seen, taken) == 0) {
-        /* The next one may be as long, and a little more. */
+        /* The next message may be a little longer. */
         pipe->most = taken + taken / 8 < 512 ? 512 : taken + taken / 8;
         if (pipe->most > sizeof pipe->seen) pipe->most = sizeof pipe->seen;
         pipe->whole = pipe->one.length;

@@ -16,7 +16,7 @@ except ImportError:
     try:
         from wheel.bdist_wheel import bdist_wheel
     except ImportError:
-        # Without it there are no wheels: `setup.py build` needs none.
+        # Without this class, no wheel can be built. `setup.py build` needs no wheel.
         bdist_wheel = None
 
 HERE = Path(__file__).resolve().parent
@@ -24,17 +24,17 @@ LICENCES = ("LICENSE", "NOTICE")
 
 
 def place(name):
-    """Where a file is that the package has: beside this one, or in the top of the repository."""
+    """Returns the path of a file that the package has. The file is beside this one, or at the top of the repository."""
     beside = HERE / name
     return beside if beside.is_file() else HERE.parent / name
 
 
 class SourceDistribution(sdist):
-    """A source distribution with what lies outside of this folder."""
+    """A source distribution that also has the files from outside of this folder."""
 
     def make_release_tree(self, base_dir, files):
         super().make_release_tree(base_dir, files)
-        # What builds the module says where the library is.
+        # binding.py, which builds the module, says where the library is.
         binding = runpy.run_path(str(HERE / "binding.py"))
         copied = {"capn.h": binding["HEADER"], "libcapn.a": binding["ARCHIVE"]}
         for name, path in {**copied, **{name: place(name) for name in LICENCES}}.items():
@@ -46,7 +46,7 @@ commands = {"sdist": SourceDistribution}
 if bdist_wheel is not None:
 
     class Wheel(bdist_wheel):
-        """A wheel with the licences, which lie outside of this folder."""
+        """A wheel that also has the licences, which are outside of this folder."""
 
         def write_wheelfile(self, wheelfile_base, *words, **options):
             super().write_wheelfile(wheelfile_base, *words, **options)

@@ -17,7 +17,7 @@ LIBRARIES = "/usr/lib/x86_64-linux-gnu"
 
 
 class Debs:
-    """A mixin with the methods that make Debian packages. The class that uses it needs a folder `work`, a time
+    """A mixin with the methods that make Debian packages. A class with this mixin needs a folder `work`, a time
     `seconds`, a text `proved`, a `debian_version` and a list `made`."""
 
     def debs(self, has_wheel):

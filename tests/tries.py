@@ -55,8 +55,8 @@ def tests_of(crate):
 
 
 def modules_of_calls(crate):
-    """Returns, for each call in the test cases of a crate, the modules that the call depends on. They are the module of
-    the call, and the modules that the module of the call uses."""
+    """Returns, for each call in the test cases of a crate, the modules that the call depends on. These modules are the
+    call's own module and the modules that this module uses."""
     folder = os.path.join(TOP, "crates", crate, "src")
     modules = {name[:-3]: text_of("crates", crate, "src", name) for name in os.listdir(folder)}
 
@@ -71,8 +71,8 @@ def modules_of_calls(crate):
 
 
 def crates_of_calls(crate):
-    """Yields each call of a crate that has test cases, and the crates that the modules of the call name. The answer to
-    the call depends on these crates."""
+    """Yields each call of a crate that has test cases, with the crates on which the answer to the call depends. The
+    modules of the call name these crates."""
     for word, used in modules_of_calls(crate).items():
         texts = [text_of("crates", crate, "src", f"{one}.rt") for one in used]
         yield word, {name for text in texts for name in re.findall(r"^use (capn_\w+)", text, re.M)}
@@ -151,8 +151,8 @@ def cases_job(crate, cases):
         with tempfile.TemporaryDirectory() as folder:
             for number, part in enumerate(parts):
                 with open(os.path.join(folder, f"{number:04}"), "w", encoding="utf-8") as file:
-                    # Here only some allocations of each call fail. In `make test`, which runs the compiled code, each
-                    # allocation fails in turn.
+                    # The word `few` makes only some allocations of each call fail. In `make test`, which runs the
+                    # compiled code, each allocation fails in turn.
                     file.write(stored.asked(part, "few "))
             # `rt try` interprets the program. The interpreter can't run code that allocates memory from the system.
             status, out, said = try_crate(crate, ["--steps", "1", "--seconds", str(SECONDS), "--cases", folder])
@@ -172,9 +172,10 @@ def cases_job(crate, cases):
     return Job(crate, f"{len(cases):,} cases", run)
 
 
-# What a file of Rattle or C has beside its code: comments, texts and letters. A quote in a letter begins no text.
+# Matches the parts of a file of Rattle or C that aren't code: comments, strings and characters between quotes. A double
+# quote between single quotes begins no string.
 NOT_CODE = re.compile(r'//[^\n]*|/\*.*?\*/|b?\'(?:\\.|[^\\\'\n])\'|"(?:\\.|[^"\\])*"', re.S)
-# A line that imports: the path, and the names in braces or the `*`.
+# Matches an import: its path, and the names in braces or the `*`.
 USED = re.compile(r"^\s*(?:pub )?use ([\w:]+)(?:::(?:\{([^}]*)\}|(\*)))?;", re.M)
 
 
@@ -185,7 +186,7 @@ def product():
 
 
 def items_of(crate, module):
-    """Yields what a module exports: for each name, the path of the module that it comes from, and the name."""
+    """Yields a pair for each name that a module exports: the path of the module that defines the name, and the name."""
     text = text_of("crates", crate, "src", f"{module}.rt")
     yield from ((module, name) for name in re.findall(r"^pub (?:fn|struct|enum|trait) (\w+)", text, re.M))
     for path, names in re.findall(r"^pub use ([\w:]+)::(\{[^}]*\}|\w+);", text, re.M):
@@ -194,13 +195,14 @@ def items_of(crate, module):
 
 @functools.cache
 def items(crate):
-    """Returns what a crate of the product exports, as `items_of` yields it. Leaves out the modules of laws, whose
-    functions nothing calls: their contracts are all that they say."""
+    """Returns what a crate of the product exports, as `items_of` yields it. Leaves out the modules of laws. A law is a
+    function that nothing calls, since it only states a theorem in its contract."""
     if not os.path.exists(os.path.join(TOP, "crates", crate, "src", "lib.rt")):
         return ()
     modules = re.findall(r"^pub mod (\w+);", text_of("crates", crate, "src", "lib.rt"), re.M)
     if crate == proving.LIBRARY:
-        # Apart from its calls, which c/capn.h declares, the library for C exports only laws of these calls.
+        # The library for C exports its calls, and laws about these calls. Neither is returned here, because c/capn.h
+        # declares the calls.
         return ()
     modules = ["lib", *(it for it in modules if it != "laws")]
     return tuple(dict.fromkeys(it for module in modules for it in items_of(crate, module)))
@@ -281,7 +283,8 @@ def providers(crate, name):
 
 def is_named(function, file):
     """Tests whether a test file uses an exported function. The file has to import the function, or the type of a
-    method, from a crate that exports it, and has to write the name once more. Or it writes the name after a module."""
+    method, from a crate that exports it, and has to write the name once more. A name that comes after the name of a
+    module also counts."""
     if function.crate == "c":
         return not file.crate and function.name in file.calls
     item, _, method = function.name.partition("::")

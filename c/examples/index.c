@@ -23,7 +23,8 @@ static void print_entry(const capn_entry *all, size_t i, int level, const uint8_
 
 int main(int count, char **words) {
     /* The program copies the message into its own memory, so that nobody changes the message while it is read. The
-     * buffer has room for one byte more than a message may have here, so a longer message is detected and rejected. */
+     * buffer has room for one byte more than the longest accepted message, so a longer message is detected and
+     * rejected. */
     static uint8_t bytes[(1 << 20) + 1];
     capn_limits limits = CAPN_USUAL_LIMITS;
     limits.message_words = 1 << 17;

@@ -4,7 +4,7 @@
 #include <stdio.h>
 
 int main(int count, char **words) {
-    static uint8_t bytes[(1 << 20) + 1]; /* the buffer has one byte more than a message may have here */
+    static uint8_t bytes[(1 << 20) + 1]; /* one byte more than the longest message that is accepted */
     const capn_limits limits = CAPN_USUAL_LIMITS;
     if (count != 2) return 2;
     FILE *file = fopen(words[1], "rb");

@@ -28,7 +28,7 @@ HERE = os.path.dirname(os.path.abspath(__file__))
 PAGE = os.path.join(HERE, "page")
 CAPN = os.environ.get("CAPN", "capn")
 SECONDS, LARGE = 120, 1_000_000
-# Texts that would end an element, an attribute or a script, or begin one.
+# Texts that would begin or end an element, an attribute or a script if the page didn't escape them.
 NASTY = [b"</script><script>window.evil=1</script>", b"<!--<script>", b"\" onclick=\"window.evil=1", b"' autofocus x='",
          b"</style></title></noscript>", b"&lt;&#60;&amp", b"]]></div></main>",
          b"\\u003cscript\\u003e<img src=x onerror=evil()>"]
@@ -41,7 +41,7 @@ def want(what, is_so, more=""):
         print(f"annotate: failed: {what}{f': {more}' if more else ''}")
 
 
-# This section makes messages.
+# The functions below make messages.
 
 
 def struct_of(data, slots, offset):
@@ -93,7 +93,7 @@ def numbers(count):
     return frame([list_of(5, count - 1, 0), *(rng.getrandbits(64) for _ in range(count - 1))])
 
 
-# This section makes pages, and reads them.
+# The functions below make pages, and read them.
 
 
 def annotated(message, *words):
@@ -272,7 +272,7 @@ def large(count):
     return made
 
 
-# This section opens pages in Chromium.
+# The code below opens pages in Chromium.
 
 
 class Browser:
@@ -383,8 +383,8 @@ SEEN = """
   return box.height > 0 && box.top >= 0 && box.bottom <= innerHeight;
 })()
 """
-# The lowest contrast between the text of a word and its background, over all kinds of words. By rules for accessible
-# pages, the contrast is (L1 + 0.05) / (L2 + 0.05).
+# The lowest contrast between the text of a word and its background, over all kinds of words. By the rules for
+# accessible pages, the contrast is (L1 + 0.05) / (L2 + 0.05), where L1 is the greater and L2 the lesser luminance.
 CONTRAST = """
 (() => {
   const level = (text) => {
@@ -436,7 +436,7 @@ def clicked(browser, scheme):
 
 
 def unfolded(browser, path, name):
-    """Opens the page of a large message, at a word that is folded."""
+    """Opens the page of a large message, at a word inside a fold."""
     browser.call("Performance.enable", timeDomain="threadTicks")
     want(f"{name}: the page opens", browser.open(path, "light"))
     opened = browser.busy()

@@ -21,8 +21,8 @@ from messages import canonical, framed, in_two_segments, with_zeros
 
 CAPN = os.environ["CAPN"]
 MEGABYTE = 1 << 20
-# How often the messages after a damaged segment table are repeated. One damaged table announces 5,000 words. The
-# repeated messages have so many words that the 5,000 words end inside the archive.
+# The number of times that the messages after a damaged segment table are repeated. One damaged table announces 5,000
+# words. The repeated messages have so many words that the 5,000 words end inside the archive.
 MANY = 6
 Ran = tuple[bytes, str, int]
 Place = tuple[int, int, str]
@@ -126,7 +126,7 @@ def recover(source: random.Random, messages: list[bytes]) -> None:
     last = len(messages[-1])
     recovered("a cut", (head + tail)[:-8], messages[:-1], (len(head + tail) - last, last - 8, "frame: Cut"))
     # A rejected message contains another message. recover.py takes the inner message for a message of the archive,
-    # unless its option says that messages hold others.
+    # unless its option `--nested` says that messages may contain other messages.
     holder = nested(after[0])
     holder = holder[:23] + b"\x7f" + holder[24:]
     fault = fault_of(holder)

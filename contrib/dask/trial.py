@@ -48,7 +48,7 @@ def by_one_process(data: bytes, *words: str) -> tuple[bytes, str]:
 
 
 def run_command(paths: list[str]) -> subprocess.CompletedProcess[bytes]:
-    """Runs the command dedupe.py without a cluster. It writes the result into the file `framed`."""
+    """Runs the command dedupe.py without a cluster. The command writes the result into the file `framed`."""
     script = Path(__file__).with_name("dedupe.py")
     words = [sys.executable, "-B", str(script), "--canonical", "--most", str(MOST), "framed", *paths]
     return subprocess.run(words, capture_output=True, check=False)
@@ -61,8 +61,8 @@ def by_command(paths: list[str]) -> tuple[bytes, str]:
 
 
 def is_named(paths: list[str]) -> bool:
-    """Runs the command dedupe.py on a truncated file. Returns whether it names this file, keeps the result of an
-    earlier run, and leaves no other file beside the result."""
+    """Runs the command dedupe.py on a truncated file. Returns whether the command names this file, keeps the result of
+    an earlier run, and leaves no other file beside the result."""
     before = Path("framed").read_bytes()
     cut = Path("cut.messages")
     cut.write_bytes(Path(paths[0]).read_bytes()[:-8])

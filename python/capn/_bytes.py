@@ -1,4 +1,4 @@
-"""Bytes as a call takes them: in place where nothing can change them, else copied."""
+"""Bytes as a call takes them. They are read in place if nothing can change them, and copied otherwise."""
 from __future__ import annotations
 
 import sys
@@ -11,19 +11,20 @@ if TYPE_CHECKING:
 elif sys.version_info >= (3, 12):
     from collections.abc import Buffer
 else:
-    # What has a buffer: Python has no name for that before 3.12.
+    # Before version 3.12, Python has no name for the type of objects that have a buffer.
     Buffer = Any
 
 __all__ = ["Buffer", "copied", "no_buffer", "taken"]
 
 _from_buffer = ffi.from_buffer
-# From how many bytes on a view of `bytes` is read in place: a copy of fewer is made sooner.
+# A view of `bytes` is read in place if it has at least this number of bytes. Copying fewer bytes is faster.
 _SHORT = 4096
 
 
 def taken(data: Buffer, in_place: bool) -> Any:
-    """The bytes of an object, for a call. Of `bytes`, and of a view of `bytes`, they can't change, and are taken in
-    place; those of another object are copied, unless the caller says that nothing changes them."""
+    """Returns the bytes of an object for a call. The bytes of a `bytes`, or of a view of a `bytes`, can't change, so
+    the call reads them in place. The bytes of any other object are copied, unless the caller says that nothing changes
+    them."""
     if type(data) is bytes:
         return data
     if not in_place:
@@ -36,14 +37,14 @@ def taken(data: Buffer, in_place: bool) -> Any:
     try:
         return _from_buffer(data)
     except (BufferError, ValueError):
-        # It has gaps, or another order of its elements: numpy says so by a `ValueError`.
+        # The bytes have gaps, or their elements have another order. numpy reports this by a `ValueError`.
         return copied(data)
     except TypeError:
         raise no_buffer(data) from None
 
 
 def copied(data: Buffer) -> bytes:
-    """A copy of the bytes of an object; those of a view with gaps are copied together."""
+    """Returns a copy of the bytes of an object. The parts of a view with gaps are put together."""
     try:
         return memoryview(data).tobytes()
     except TypeError:

@@ -1,4 +1,4 @@
-"""The calls that take one message, or words."""
+"""The calls that take one message or words."""
 from __future__ import annotations
 
 import warnings
@@ -10,11 +10,12 @@ from ._capn import ffi, lib
 from ._limits import Limits
 from ._refusal import Refusal, failure, failure_of_words, let_go, refused
 
-# How the bytes of a message are written, as `capn --form` has it.
+# The forms in which the bytes of a message can be written. The words are those of `capn --form`.
 Form = Literal["stream", "packed", "bare"]
 _FORMS: dict[str, int] = {"stream": lib.CAPN_STREAM, "packed": lib.CAPN_PACKED, "bare": lib.CAPN_BARE}
 _USUAL = Limits()
-# What `capn unpack` takes: the words of the usual limits, and those of the longest segment table.
+# The greatest number of words that `capn unpack` writes: the words of a message by the default limits, and the words of
+# the longest segment table.
 _TABLE_WORDS = 2049
 _USUAL_WORDS = 8388608 + _TABLE_WORDS
 _new, _report_type = ffi.new, ffi.typeof("capn_report *")
@@ -23,40 +24,42 @@ _room = ffi.new_allocator(should_clear_after_alloc=False)
 _room_type, _which_type = ffi.typeof("uint8_t[]"), ffi.typeof("uint32_t *")
 # These names are looked up once, because a look-up is a large part of a short call.
 _capn_check, _capn_hash, _new_tuple, _unpack = lib.capn_check, lib.capn_hash, tuple.__new__, ffi.unpack
-# The longest buffer that is allocated before a message was looked at: a longer result takes a second call.
+# The longest buffer that is allocated for a message that wasn't read yet. A longer result takes a second call.
 _MOST_ROOM = 1 << 28
-# Reports that no call uses. Each call takes one for itself, whatever threads and signal handlers run meanwhile.
+# Reports that no call uses. Each call takes a report for itself. So threads and signal handlers don't disturb it.
 _reports: list[Any] = []
-# Rooms for a digest that no call uses: 32 characters, and their address as the library takes it.
+# Buffers for a digest that no call uses: 32 characters, with their address as the library takes it.
 _digests: list[tuple[Any, Any]] = []
 
 
 class Checked(NamedTuple):
-    """What reading a valid message costs."""
+    """The cost of reading a valid message."""
 
     paid: int
     """The cost in words."""
     visits: int
-    """How many pointers are followed, each as often as it is met. The root pointer is one, and null pointers count."""
+    """The number of pointers that are followed. A pointer counts each time that it is met. The root pointer and null
+    pointers count, too."""
 
 
 class Surveyed(NamedTuple):
     """The statistics of a valid message."""
 
     words: int
-    """The words of all segments."""
+    """The number of words of all segments."""
     segments: int
-    """How many segments it has."""
+    """The number of segments."""
     paid: int
-    """The cost of reading it, in words."""
+    """The cost in words of reading the message."""
     visits: int
-    """How many pointers are followed, each as often as it is met. The root pointer is one, and null pointers count."""
+    """The number of pointers that are followed. A pointer counts each time that it is met. The root pointer and null
+    pointers count, too."""
     depth: int
-    """The least nesting limit within which it is valid; 0 for a null root."""
+    """The lowest nesting limit that accepts the message. It is 0 for a null root."""
     capability: int | None
-    """The index of its first capability, or None."""
+    """The index of the first capability of the message, or None."""
     canonical: bool
-    """Whether it has one segment, which has the canonical bytes of its value."""
+    """Whether the message has one segment, which has the canonical bytes of its value."""
 
 
 def _report() -> Any:
@@ -75,7 +78,7 @@ def _digest_room() -> tuple[Any, Any]:
 
 
 def _form(form: str) -> int:
-    """The number of a form."""
+    """Returns the library's number of a form."""
     if not isinstance(form, str):
         raise TypeError(f"form is a string, not {type(form).__name__}")
     if form not in _FORMS:
@@ -84,15 +87,15 @@ def _form(form: str) -> int:
 
 
 def _laid_out(limits: Limits) -> Any:
-    """Limits as the library lays them out."""
+    """Returns limits as the library takes them."""
     if not isinstance(limits, Limits):
         raise TypeError(f"limits are capn.Limits, not {type(limits).__name__}")
     return limits._laid_out  # type: ignore[attr-defined]
 
 
 def _taken(data: Buffer, form: str, limits: Limits, in_place: bool) -> tuple[int, Any, Any]:
-    """What the library is given of the arguments: the number of the form, the bytes, the limits."""
-    # The bytes come last: an argument that is wrong locks no buffer.
+    """Returns the arguments as the library takes them: the number of the form, the bytes, and the limits."""
+    # The bytes come last, so that a wrong argument locks no buffer.
     try:
         number, bounds = _FORMS[form], limits._laid_out  # type: ignore[attr-defined]
     except (KeyError, TypeError, AttributeError):
@@ -103,8 +106,9 @@ def _taken(data: Buffer, form: str, limits: Limits, in_place: bool) -> tuple[int
 def _filled(
     call: Callable[[Any, int, Any], int], room: int, given: Sequence[Any], fault: Callable[[int, Any], Exception]
 ) -> bytes:
-    """What a call writes: into a buffer of this size or, if the result doesn't fit, of the length that it reports; or
-    the fault that it is. After an exception nothing holds the bytes that the call was given."""
+    """Makes a call that writes into a buffer, and returns the written bytes. The buffer has `room` bytes at first. If
+    the result is longer, it is written into a buffer of the length that the call reports. If the call fails, raises
+    what `fault` returns. After an exception, nothing holds the bytes that were given to the call."""
     try:
         report, room = _report(), min(room, _MOST_ROOM)
         out = _room(_room_type, room)
@@ -125,13 +129,14 @@ def _filled(
 
 
 def _most_bytes(size: int, number: int, limits: Limits) -> int:
-    """How many bytes a message of these limits has at most, unpacked, in so many bytes of a form."""
+    """Returns the greatest number of bytes that a message can have after unpacking. The message has `size` bytes in the
+    form `number`, and is within the limits."""
     unpacked = 1024 * size if number == lib.CAPN_PACKED else size
     return min(unpacked, 8 * (limits.message_words + _TABLE_WORDS))
 
 
 def _surveyed(figures: Any) -> Surveyed:
-    """Figures as the library lays them out, as those of Python."""
+    """Converts the library's statistics to those of Python."""
     capability = figures.capability if figures.has_capability else None
     return Surveyed(
         figures.words, figures.segments, figures.paid, figures.visits, figures.depth, capability,
@@ -139,7 +144,7 @@ def _surveyed(figures: Any) -> Surveyed:
 
 
 def check(data: Buffer, form: Form = "stream", limits: Limits = _USUAL, *, in_place: bool = False) -> Checked:
-    """Checks that the bytes are one valid message within limits. Returns what reading it costs."""
+    """Checks that the bytes are one valid message within limits. Returns the cost of reading the message."""
     number, given, bounds = _taken(data, form, limits, in_place)
     report = _report()
     status = _capn_check(number, given, len(given), bounds, report)
@@ -157,7 +162,7 @@ def survey(data: Buffer, form: Form = "stream", limits: Limits = _USUAL, *, in_p
 
 
 def _survey(data: Buffer, number: int, given: Any, bounds: Any) -> Surveyed:
-    """The same of what the library was given."""
+    """Returns the statistics of a message. The form, the bytes and the limits are as `_taken` returns them."""
     figures, report = _new(_figures_type), _report()
     status = lib.capn_survey(number, given, len(given), bounds, figures, report)
     if status != lib.CAPN_OK:
@@ -167,12 +172,13 @@ def _survey(data: Buffer, number: int, given: Any, bounds: Any) -> Surveyed:
 
 
 def canonical(data: Buffer, form: Form = "stream", limits: Limits = _USUAL, *, in_place: bool = False) -> bytes:
-    """Returns the canonical bytes of one message, at most 8 * (limits.budget + 1). Two messages have the same ones if
-    and only if they have the same value, whatever program wrote them, and in whatever form they are. A message with a
-    capability has none."""
+    """Returns the canonical bytes of one message, at most 8 * (limits.budget + 1). Two messages have the same canonical
+    bytes if and only if they have the same value, whatever program wrote them, and whatever their form is. A message
+    with a capability has no canonical bytes."""
     number, given, bounds = _taken(data, form, limits, in_place)
     size = len(given)
-    # As long as the words that the message has: mostly enough. If it isn't, the call reports the length.
+    # The buffer is as long as the words of the message, which is enough in most cases. Otherwise the call reports the
+    # length.
     room = 4 * size if form == "packed" else size
     return _filled(
         lambda *out: lib.capn_canonical(number, given, size, bounds, *out),
@@ -184,8 +190,8 @@ def same(
     first: Buffer, second: Buffer, form: Form = "stream", limits: Limits = _USUAL, *, in_place: bool = False
 ) -> bool:
     """Compares the values of two messages of the same form, without writing their canonical bytes. Zero words and null
-    pointers at the ends of structs make no difference. A `Refusal` is about the first message, or, if that is valid,
-    about the second: its `which` is 0 or 1."""
+    pointers at the ends of structs make no difference. A `Refusal` is about the first message if that message is
+    rejected, and otherwise about the second. Its `which` is 0 or 1."""
     number, given, bounds = _taken(first, form, limits, in_place)
     try:
         other = taken(second, in_place)
@@ -228,7 +234,7 @@ def is_canonical_message(
 
 def is_canonical_words(words: Buffer, limits: Limits = _USUAL, *, in_place: bool = False) -> bool:
     """Returns whether the words of a single segment, without a segment table, are the canonical bytes of their value.
-    Raises a `Refusal` if they are no valid message or have a capability.
+    Raises a `Refusal` if the words aren't a valid message or have a capability.
 
     Don't pass a message with its segment table: nearly every message of one segment passes here with its table,
     canonical or not. Call `is_canonical_message` for that."""
@@ -251,7 +257,7 @@ def is_canonical(
 
 
 def _is_canonical(data: Buffer, given: Any, bounds: Any) -> bool:
-    """The same of bare words, as the library was given them."""
+    """Returns whether bare words are canonical. The words and the limits are as the library takes them."""
     report = _report()
     status = lib.capn_is_canonical(given, len(given), bounds, report)
     if status not in (lib.CAPN_OK, lib.CAPN_NOT_CANONICAL):
@@ -282,7 +288,7 @@ def pack(data: Buffer, *, in_place: bool = False) -> bytes:
 
 
 def unpack(data: Buffer, max_words: int = _USUAL_WORDS, *, in_place: bool = False) -> bytes:
-    """Unpacks packed bytes, to at most `max_words` words, a number below 2^32."""
+    """Unpacks packed bytes to at most `max_words` words. `max_words` is a number below 2^32."""
     most = index(max_words)
     if not 0 <= most < 1 << 32:
         raise ValueError(f"max_words is a number from 0 to {(1 << 32) - 1}, not {most}")

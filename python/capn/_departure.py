@@ -1,4 +1,4 @@
-"""Where a message leaves its canonical bytes."""
+"""The first difference of a message from its canonical bytes."""
 from __future__ import annotations
 
 from dataclasses import dataclass
@@ -34,24 +34,24 @@ class Departure:
     Fields that the kind doesn't speak of are None."""
 
     kind: Literal["segments", "capability", "word", "after"]
-    """The message has several segments, or a capability; or a word differs from the canonical bytes, or comes after
-    their end."""
+    """Why the message isn't canonical: it has several segments, it has a capability, a word differs from the canonical
+    bytes, or a word comes after their end."""
     way: tuple[int, ...] | None = None
     """The path from the root to the first capability, or to the pointer that the word is part of, as in
     `Refusal.way`."""
     count: int | None = None
-    """How many segments there are."""
+    """The number of segments."""
     index: int | None = None
     """The index of the capability."""
     byte: int | None = None
-    """Where the word begins in the message, as in `Refusal.byte`."""
+    """The offset of the word in the message, as in `Refusal.byte`."""
     word: int | None = None
-    """The word in the message, a number below 2^64."""
+    """The word of the message, as a number below 2^64."""
     canonical_word: int | None = None
-    """The same word of the canonical bytes."""
+    """The word at the same place of the canonical bytes."""
     owner: Literal["pointer", "tag", "last word"] | None = None
-    """What the word is part of in the canonical bytes: it is the pointer at that path, or the tag or the last word of
-    the list that the pointer refers to. Not all bits of such a last word are elements."""
+    """The part of the canonical bytes that has the word: the pointer at that path, or the tag or the last word of the
+    list that the pointer refers to. Not all bits of such a last word are elements."""
 
     def __str__(self) -> str:
         if self.kind == "segments":
@@ -70,8 +70,9 @@ class Departure:
 def departure(
     message: Message | Buffer, form: Form = "stream", limits: Limits = _USUAL, *, in_place: bool = False
 ) -> Departure | None:
-    """Returns the first difference of a message from its canonical form, or None if the message is canonical: if it has
-    one segment, which has the canonical bytes of its value. The message is one that was read, or bytes within limits.
+    """Returns the first difference of a message from its canonical form, or None if the message is canonical. A
+    canonical message has one segment, which has the canonical bytes of its value. The message is a `Message`, or bytes
+    that are read with the given limits.
 
     The message is checked several times, and its canonical bytes are allocated. `is_canonical_message` and `survey` are
     faster if only yes or no is wanted."""
@@ -93,7 +94,7 @@ def departure(
         return Departure(kind, count=departed.count)
     if kind == "capability":
         return Departure(kind, numbers, index=departed.count)
-    # There is one segment, after a table of a word.
+    # The message has one segment, after a segment table of one word.
     byte, word = 8 * departed.word + (0 if number == lib.CAPN_BARE else 8), getattr(departed, "is")
     if kind == "after":
         return Departure(kind, byte=byte, word=word)
@@ -102,13 +103,13 @@ def departure(
 
 
 def _written(word: Any, is_pointer: bool) -> str:
-    """A word by its bytes, in the order in which they lie, and what it says as a pointer."""
+    """Returns the bytes of a word as text, in their order. For a pointer, the text also describes the pointer."""
     digits: str = word.to_bytes(8, "little").hex()
     return f"{digits} ({_decoded(word)})" if is_pointer else digits
 
 
 def _decoded(word: int) -> str:
-    """What a word says as a pointer."""
+    """Returns a text that describes a word as a pointer."""
     low, high = word & 0xFFFFFFFF, word >> 32
     offset = (low >> 2) - (low >> 31 << 30)
     if word == 0:

@@ -1,4 +1,4 @@
-"""How much a call takes on."""
+"""The limits that a call sets on a message: on its size, on the cost of reading it, and on its depth."""
 from __future__ import annotations
 
 from dataclasses import dataclass, fields
@@ -47,5 +47,5 @@ class Limits:
         object.__setattr__(self, "_laid_out", ffi.new("const capn_limits *", numbers))
 
     def __reduce__(self) -> tuple[Any, ...]:
-        # What is laid out for the library is made again by whoever unpickles or copies.
+        # The structure for the library isn't pickled or copied. The new object makes its own structure.
         return type(self), tuple(getattr(self, one.name) for one in fields(self) if one.init)

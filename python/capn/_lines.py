@@ -1,4 +1,4 @@
-"""What each word of a message is."""
+"""The lines of a message. They say what each word of the message is."""
 from __future__ import annotations
 
 from enum import IntEnum
@@ -13,14 +13,14 @@ from ._message import Message
 from ._refusal import let_go, refused
 
 _lines_type = ffi.typeof("capn_line[]")
-# A line as the library lays it out.
+# The layout of a line in the library's memory.
 _LAID_OUT = _Layout("<Q10I")
-# How many lines there is room for at first: mostly enough for a small message.
+# The number of lines for which there is room at first. This is enough for most small messages.
 _FEW = 256
 
 
 class LineKind(IntEnum):
-    """What the words of a `Line` are."""
+    """The kind of the words of a `Line`."""
 
     POINTER = lib.CAPN_LINE_POINTER
     """A pointer that isn't null."""
@@ -37,33 +37,33 @@ class LineKind(IntEnum):
     SLACK = lib.CAPN_LINE_SLACK
     """Words of a list of structs after its elements."""
     UNREACHED = lib.CAPN_LINE_UNREACHED
-    """Words of no object or landing pad."""
+    """Words that belong to no object and no landing pad."""
 
 
 class Line(NamedTuple):
-    """A line of a message: words one after another in one segment that are alike."""
+    """A line of a message: consecutive words of one segment that are alike."""
 
     offset: int
-    """Where the first word begins in the message, or in the unpacked bytes of a packed message."""
+    """The offset of the first word in the message. In a packed message, the offset counts the unpacked bytes."""
     place: tuple[int, int]
-    """The segment of the words, and the number of the first word in that segment."""
+    """The number of the segment, and the number of the first word in the segment."""
     words: int
-    """How many words there are, 1 or more."""
+    """The number of words, 1 or more."""
     times: int
-    """How often objects and landing pads cover each of the words; 0 for `LineKind.UNREACHED`."""
+    """The number of times that objects and landing pads cover each of the words. It is 0 for `LineKind.UNREACHED`."""
     slot: tuple[int, int] | None
-    """The pointer to the object or landing pad that has the words: its segment, and its word in that segment. None for
-    the root pointer, and for `LineKind.UNREACHED`."""
+    """The place of the pointer to the object or landing pad that has the words: the pointer's segment, and its word in
+    that segment. None for the root pointer, and for `LineKind.UNREACHED`."""
     cut: int
-    """How many of the words canonical bytes leave out."""
+    """The number of words that canonical bytes leave out."""
     not_zero: int
-    """How many of the words aren't zero."""
+    """The number of words that aren't zero."""
     kind: LineKind
-    """What the words are."""
+    """The kind of the words."""
     overlap: bool
     """Whether different objects or landing pads overlap in the words."""
     padding: bool
-    """Whether the line has the last word of a list, whose padding isn't zero."""
+    """Whether the line has the last word of a list, and the padding after the list isn't zero."""
 
 
 _KINDS = tuple(LineKind)
@@ -72,9 +72,9 @@ _KINDS = tuple(LineKind)
 def annotate(
     message: Message | Buffer, form: Form = "stream", limits: Limits = _USUAL, *, in_place: bool = False
 ) -> list[Line]:
-    """Returns the lines of a message, as `capn annotate` has them, in the order of the words: each word of each segment
-    is in exactly one. The segment table has no line. The message is one that was read, or bytes within limits; it may
-    have a capability.
+    """Returns the lines of a message, as `capn annotate` has them, in the order of the words. Each word of each segment
+    is in exactly one line. The segment table has no line. The message is a `Message`, or bytes that are read with the
+    given limits. It may have a capability.
 
     A call takes 16 bytes for each word of a valid message, and 48 for each line."""
     if isinstance(message, Message):

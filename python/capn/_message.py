@@ -1,4 +1,4 @@
-"""Messages that are read in place, by an index of them."""
+"""Messages that are read in place, with the help of an index."""
 from __future__ import annotations
 
 import builtins
@@ -18,23 +18,23 @@ from ._refusal import Refusal, let_go, refused
 
 _T = TypeVar("_T")
 _entries_type = ffi.typeof("capn_entry[]")
-# The entries for which there is room at once; if there are more, the library says how many.
+# The number of index entries for which there is room at first. If a message needs more, the library says how many.
 _FEW = 64
 _WIDTHS = (8, 16, 32, 64)
-# Of the bits of a number, the kind of a list of such numbers.
+# For each number of bits, the kind of a list of numbers of this size.
 _SIZES = {1: "bits", 8: "bytes", 16: "u16", 32: "u32", 64: "u64"}
-# What objects of some kinds have, and of others not.
+# The attributes that objects of some kinds have, and objects of other kinds don't have.
 _OF_KINDS = ("words", "slots", "word", "slot", "uint", "int", "float", "bool", "text", "view", "index")
 
 
 class Mismatch(ValueError):
-    """A message has something else than you ask for: an object of another kind, fewer elements, or bytes that aren't a
-    text. The sender chooses that, so it is a `ValueError`, as a `Refusal` is. It can be an `IndexError`, an
-    `AttributeError` or a `UnicodeDecodeError` too."""
+    """A message doesn't have what you ask for: it has an object of another kind, fewer elements, or bytes that aren't a
+    text. The sender decides this, so the exception is a `ValueError`, as a `Refusal` is. It may also be an
+    `IndexError`, an `AttributeError` or a `UnicodeDecodeError`."""
 
 
 class _Missing(Mismatch, IndexError):
-    """There is no such element."""
+    """The object has no element with this number."""
 
 
 class _Other(Mismatch, AttributeError):
@@ -46,7 +46,7 @@ class _Undecodable(Mismatch, UnicodeDecodeError):
 
 
 class Object:
-    """What a pointer refers to. Its `kind` is the word that `capn show` prints for it.
+    """The object that a pointer refers to. Its `kind` is the word that `capn show` prints for it.
 
     Two objects are equal if they have the same value, as their canonical bytes would: zero words and null pointers at
     the end of a struct make no difference. A comparison may read everything below an object. No object has a hash."""
@@ -59,29 +59,29 @@ class Object:
 
     @property
     def kind(self) -> str:
-        """The word that `capn show` prints for it."""
+        """The word that `capn show` prints for the object."""
         raise NotImplementedError
 
     def struct(self) -> Body:
-        """Returns the struct, or for a null pointer one without words and pointers. Raises a `Mismatch` for anything
-        else."""
+        """Returns the object as a struct. For a null pointer, returns a struct without words and pointers. Raises a
+        `Mismatch` for anything else."""
         raise Mismatch(f"there is no struct, but {self!r}")
 
     def list(self) -> Sequence[Any]:
-        """Returns the list, whose `kind` says what its elements are, or for a null pointer one without elements. Raises
-        a `Mismatch` for anything else."""
+        """Returns the object as a list, whose `kind` says what its elements are. For a null pointer, returns a list
+        without elements. Raises a `Mismatch` for anything else."""
         raise Mismatch(f"there is no list, but {self!r}")
 
     def rows(self) -> Sequence[Body]:
-        """Returns the elements as structs; for a null pointer none. If an older schema has numbers or pointers, each is
-        a struct of that one field. Raises a `Mismatch` for anything else, and for bits, which no schema turns into
-        structs."""
+        """Returns the elements as structs, or no elements for a null pointer. If an older schema has numbers or
+        pointers, each number or pointer becomes a struct with this one field. Raises a `Mismatch` for anything else,
+        and for bits, which no schema turns into structs."""
         raise Mismatch(f"there is no list of structs, but {self!r}")
 
     def numbers(self, bits: int) -> Sequence[int]:
-        """Returns the elements as numbers without sign, of 8, 16, 32 or 64 bits, or of 1, which are booleans; for a
-        null pointer none. If a newer schema has structs, it is the first field of each, and 0 if they have no data
-        words. Raises a `Mismatch` for anything else, and for numbers of another size."""
+        """Returns the elements as unsigned numbers of 8, 16, 32 or 64 bits, or of 1 bit, which are booleans. Returns no
+        elements for a null pointer. If a newer schema has structs, returns the first field of each struct, or 0 if the
+        structs have no data words. Raises a `Mismatch` for anything else, and for numbers of another size."""
         if bits not in _SIZES:
             raise ValueError(f"a number has 1, 8, 16, 32 or 64 bits, not {bits!r}")
         if self.kind != _SIZES[bits]:
@@ -90,8 +90,9 @@ class Object:
         return found  # type: ignore[no-any-return]
 
     def pointers(self) -> Sequence[Value]:
-        """Returns the object that each element refers to; for a null pointer none. If a newer schema has structs, it is
-        that of the first pointer of each, and null if they have no pointers. Raises a `Mismatch` for anything else."""
+        """Returns the object that each element refers to, or no elements for a null pointer. If a newer schema has
+        structs, returns the object that the first pointer of each struct refers to, or null if the structs have no
+        pointers. Raises a `Mismatch` for anything else."""
         raise Mismatch(f"there is no list of pointers, but {self!r}")
 
     def __eq__(self, other: object) -> bool:
@@ -105,20 +106,21 @@ class Object:
     if not TYPE_CHECKING:
 
         def __getattr__(self, name: str) -> NoReturn:
-            # What other kinds have is not here because of the message.
+            # If objects of other kinds have the attribute, it is the message that decides that this object lacks it. So
+            # the exception is a `Mismatch`.
             wrong = _Other if name in _OF_KINDS else AttributeError
             raise wrong(f"an object of class {type(self).__name__} has no {name}")
 
 
 class Capability(Object):
-    """A capability, by its index."""
+    """A capability, which has only an index."""
 
     __slots__ = ()
     kind: Literal["capability"] = "capability"
 
     @property
     def index(self) -> int:
-        """Which of the capabilities it is that came beside the message."""
+        """The index of the capability among those that came with the message."""
         return int(self._entry.count)
 
     def __repr__(self) -> str:
@@ -126,7 +128,7 @@ class Capability(Object):
 
 
 class _Items(Sequence[_T]):
-    """A list of known length whose elements are made as they are asked for."""
+    """A list of known length. Each element is made when it is asked for."""
 
     __slots__ = ()
 
@@ -149,14 +151,15 @@ class _Items(Sequence[_T]):
         return map(self._item, range(len(self)))
 
     def _is_list(self, other: object) -> bool:
-        """Whether the elements are those of a list, tuple or range; not of another object."""
+        """Returns whether another list, tuple or range has the same elements. For any other object, returns
+        NotImplemented."""
         if not isinstance(other, (list, tuple, range)):
             return NotImplemented
         return len(self) == len(other) and all(one == two for one, two in zip(self, other))
 
 
 class _Made(_Items[_T]):
-    """As many elements, each of which a call makes of its number."""
+    """A list of `count` elements. A function makes each element from its index."""
 
     __slots__ = ("_count", "_make")
 
@@ -174,7 +177,7 @@ class _Made(_Items[_T]):
 
 
 class _Nothing(_Items[Any]):
-    """The elements of a null pointer."""
+    """The elements of a null pointer: there are none."""
 
     __slots__ = ()
     kind: Literal["null"] = "null"
@@ -187,7 +190,7 @@ class _Nothing(_Items[Any]):
 
 
 class Slots(_Items["Value"]):
-    """The objects that pointers beside each other refer to."""
+    """The objects that consecutive pointers refer to."""
 
     __slots__ = ("_message", "_places")
 
@@ -217,18 +220,18 @@ class Body:
     __slots__ = ()
     kind: Literal["struct"] = "struct"
     words: memoryview
-    """The data words that are stored, each a number below 2^64; `words.cast("B")` has their bytes. An index past the
-    end raises an `IndexError`, as with every memoryview; `word` returns 0 there."""
+    """The data words as they are stored, each a number below 2^64. `words.cast("B")` has their bytes. An index past the
+    end raises an `IndexError`, as with every memoryview, but `word` returns 0 there."""
     slots: Slots
-    """The objects that its pointers refer to."""
+    """The objects that the struct's pointers refer to."""
     _bits: builtins.int | None = None
-    # The bits of the data section, where that isn't all of `words`.
+    # The number of bits of the data section, if the section is smaller than `words`.
 
     def __init__(self) -> None:
         raise TypeError("bodies are of messages that are read")
 
     def uint(self, bits: builtins.int, offset: builtins.int, default: builtins.int = 0) -> builtins.int:
-        """Returns a field without sign, of 8, 16, 32 or 64 bits. An enumerant has 16."""
+        """Returns an unsigned field of 8, 16, 32 or 64 bits. An enumerant has 16 bits."""
         if bits not in _WIDTHS:
             raise ValueError(f"a number has 8, 16, 32 or 64 bits, not {bits!r}")
         if not 0 <= default < 1 << bits:
@@ -236,7 +239,7 @@ class Body:
         return self._field(bits, offset) ^ default
 
     def int(self, bits: builtins.int, offset: builtins.int, default: builtins.int = 0) -> builtins.int:
-        """Returns a field with a sign, of 8, 16, 32 or 64 bits."""
+        """Returns a signed field of 8, 16, 32 or 64 bits."""
         if bits not in _WIDTHS:
             raise ValueError(f"a number has 8, 16, 32 or 64 bits, not {bits!r}")
         half = 1 << bits - 1
@@ -246,7 +249,7 @@ class Body:
         return found - 2 * half if found & half else found
 
     def float(self, bits: builtins.int, offset: builtins.int, default: builtins.float = 0.0) -> builtins.float:
-        """Returns a field with a floating point, of 32 or 64 bits."""
+        """Returns a floating-point field of 32 or 64 bits."""
         if bits not in (32, 64):
             raise ValueError(f"a number with a floating point has 32 or 64 bits, not {bits!r}")
         number, same = ("<f", "<I") if bits == 32 else ("<d", "<Q")
@@ -255,13 +258,14 @@ class Body:
         return answer
 
     def bool(self, offset: builtins.int, default: builtins.bool = False) -> builtins.bool:
-        """Returns a field of one bit. The default is a boolean, also one of numpy, or 0 or 1."""
+        """Returns a field of one bit. The default is a boolean, a boolean of numpy, 0 or 1."""
         if default not in (0, 1):
             raise ValueError(f"default is True or False, not {default!r}")
         return bool(self._field(1, offset)) != bool(default)
 
     def word(self, i: builtins.int) -> builtins.int:
-        """Returns a data word as it is stored, a number below 2^64, or 0 if the struct is too short for it."""
+        """Returns a data word as it is stored, which is a number below 2^64. Returns 0 if the struct is too short for
+        the word."""
         if i < 0:
             raise ValueError(f"a word has a number from 0 on, not {i}")
         words = self.words
@@ -274,13 +278,13 @@ class Body:
         return self.slots[i] if i < len(self.slots) else Null(self.slots._message, -1)
 
     def struct(self) -> Body:
-        """Returns itself, as an object that is read as a struct."""
+        """Returns this struct."""
         return self
 
     def text(self, i: builtins.int | None = None, default: str = "") -> str:
         """Returns the text that pointer `i` refers to, or the default if the pointer is null or missing. Raises a
-        `Mismatch` if it refers to another object, or to bytes that aren't a text in UTF-8, and without `i`, since a
-        struct is no text."""
+        `Mismatch` if the pointer refers to another object, or to bytes that aren't a text in UTF-8. Also raises a
+        `Mismatch` without `i`, since a struct isn't a text."""
         if i is None:
             raise Mismatch(f"there is no text, but {self!r}")
         found = self.slot(i)
@@ -292,7 +296,7 @@ class Body:
 
     def data(self, i: builtins.int, default: bytes = b"") -> bytes:
         """Returns the bytes of the Data that pointer `i` refers to, or the default if the pointer is null or missing.
-        Raises a `Mismatch` if it refers to another object."""
+        Raises a `Mismatch` if the pointer refers to another object."""
         found = self.slot(i)
         if found.kind == "null":
             return default
@@ -301,7 +305,7 @@ class Body:
         return bytes(found)
 
     def _field(self, bits: builtins.int, offset: builtins.int) -> builtins.int:
-        """The bits of a field as they are stored, 0 where there are none."""
+        """Returns the bits of a field as they are stored, or 0 if the struct is too short for the field."""
         if offset < 0:
             raise ValueError(f"an offset is a number from 0 on, not {offset}")
         words = self.words
@@ -313,8 +317,8 @@ class Body:
 
 
 class Row(Body):
-    """An element of a list of structs. An element of a list of numbers that is read as a struct has those bits as its
-    data section, and a word of `words` that has zeros after them."""
+    """An element of a list of structs. If an element of a list of numbers is read as a struct, the number is its data
+    section. It then has one word in `words`, in which zeros follow the number."""
 
     __slots__ = ("words", "slots", "_bits")
 
@@ -331,7 +335,7 @@ class Row(Body):
 
 
 def _no_words() -> memoryview:
-    """A view of no words."""
+    """Returns a view without words."""
     return memoryview(b"").cast("Q")
 
 
@@ -343,43 +347,43 @@ class Null(Object, Body):
     kind: Literal["null"] = "null"  # type: ignore[assignment]
 
     def __init__(self, message: Message, at: int) -> None:
-        # A slot that a struct doesn't have has no entry.
+        # If a struct doesn't have the slot, there is no entry for it.
         self._message, self._at, self._entry = message, at, message._entries[max(at, 0)]
 
     @property
     def words(self) -> memoryview:  # type: ignore[override]
-        """None: a view that is the caller's, who may release it."""
+        """A view without words. The view belongs to the caller, who may release it."""
         return _no_words()
 
     @property
     def slots(self) -> Slots:  # type: ignore[override]
-        """None."""
+        """A list without objects."""
         return Slots(self._message, ())
 
     def text(self, i: builtins.int | None = None, default: str = "") -> str:
-        """The default, as for a text that is absent."""
+        """Returns the default, since a null pointer stands for an absent text."""
         if i is not None and i < 0:
             raise ValueError(f"a slot has a number from 0 on, not {i}")
         return default
 
     def struct(self) -> Body:
-        """Itself: a struct without words and slots."""
+        """Returns this object, which has no words and no slots."""
         return self
 
     def list(self) -> Sequence[Any]:
-        """A list without elements, whose `kind` is "null"."""
+        """Returns a list without elements, whose `kind` is "null"."""
         return _Nothing()
 
     def rows(self) -> Sequence[Body]:
-        """None."""
+        """Returns a list without elements."""
         return _Nothing()
 
     def numbers(self, bits: builtins.int) -> Sequence[builtins.int]:
-        """None."""
+        """Returns a list without elements."""
         return _Nothing() if bits in _SIZES else super().numbers(bits)
 
     def pointers(self) -> Sequence[Value]:
-        """None."""
+        """Returns a list without elements."""
         return _Nothing()
 
     def __bool__(self) -> bool:
@@ -390,13 +394,13 @@ class Null(Object, Body):
 
 
 class Struct(Object, Body):
-    """A struct."""
+    """The object of a pointer to a struct."""
 
     __slots__ = ("words", "slots")
     kind: Literal["struct"] = "struct"
 
     def struct(self) -> Body:
-        """Itself."""
+        """Returns this struct."""
         return self
 
     def __init__(self, message: Message, at: int) -> None:
@@ -410,7 +414,7 @@ class Struct(Object, Body):
 
 
 class List(Object, _Items[_T]):
-    """A list: a sequence of its elements. It also equals a `list`, `tuple` or `range` of what its elements equal."""
+    """A list: a sequence of its elements. It also equals a `list`, `tuple` or `range` with equal elements."""
 
     __slots__ = ()
 
@@ -418,7 +422,7 @@ class List(Object, _Items[_T]):
         return int(self._entry.count)
 
     def list(self) -> Sequence[Any]:
-        """Itself."""
+        """Returns this list."""
         return self
 
     def __eq__(self, other: object) -> bool:
@@ -438,12 +442,12 @@ class Voids(List[None]):
         return None
 
     def rows(self) -> Sequence[Body]:
-        """As many structs without fields."""
+        """Returns a struct without fields for each element."""
         return _Made(len(self), lambda i: Row(_no_words(), Slots(self._message, ())))
 
 
 class Bits(List[bool]):
-    """A list of bits, as booleans."""
+    """A list of bits, which are booleans."""
 
     __slots__ = ()
     kind: Literal["bits"] = "bits"
@@ -452,7 +456,7 @@ class Bits(List[bool]):
         return bool(self._message._data[self._entry.offset + i // 8] >> i % 8 & 1)
 
     def _stored(self) -> tuple[bytes, int]:
-        """The whole bytes, and the bits that are left."""
+        """Returns the complete bytes, and the bits after them as a number."""
         offset, count = self._entry.offset, len(self)
         whole = offset + count // 8
         rest = self._message._data[whole] & (1 << count % 8) - 1 if count % 8 else 0
@@ -460,7 +464,8 @@ class Bits(List[bool]):
 
 
 class _Numbers(List[int]):
-    """Numbers of one size, over the bytes of the message. They also equal what has a buffer of the same numbers."""
+    """A list of numbers of one size, read from the bytes of the message. It also equals an object whose buffer has the
+    same numbers."""
 
     __slots__ = ("view",)
     view: memoryview
@@ -475,7 +480,7 @@ class _Numbers(List[int]):
         return self.view[i]
 
     def rows(self) -> Sequence[Body]:
-        """A struct of each number. A field that is wider than the number has its default."""
+        """Returns a struct for each number. If a field is wider than the number, the field has its default."""
         bits = 8 * self.view.itemsize
 
         def row(i: int) -> Row:
@@ -493,7 +498,7 @@ class _Numbers(List[int]):
 
 
 class Bytes(_Numbers):
-    """A list of bytes: data, or a text. It also equals `bytes`; a slice of it is `bytes`."""
+    """A list of bytes, which is data or a text. It also equals `bytes`, and a slice of the list is `bytes`."""
 
     __slots__ = ()
     kind: Literal["bytes"] = "bytes"
@@ -506,9 +511,9 @@ class Bytes(_Numbers):
         return self.view[i].tobytes() if isinstance(i, slice) else super().__getitem__(i)
 
     def text(self, i: int | None = None, default: str = "") -> str:
-        """Returns the text, without the zero byte at its end. Raises a `Mismatch` if there is no such byte, or if the
-        others aren't UTF-8, which is a `UnicodeDecodeError` too, and with `i`, since a list of bytes has no
-        pointers."""
+        """Returns the text, without the zero byte at its end. Raises a `Mismatch` if there is no such byte. If the
+        other bytes aren't UTF-8, the `Mismatch` is also a `UnicodeDecodeError`. Also raises a `Mismatch` with `i`,
+        since a list of bytes has no pointers."""
         if i is not None:
             raise Mismatch(f"there is no struct, but {self!r}")
         if not self.view or self.view[-1]:
@@ -520,19 +525,20 @@ class Bytes(_Numbers):
 
 
 class Numbers(_Numbers):
-    """A list of numbers of 16, 32 or 64 bits, without sign. It also equals an `array` of them. `view` is a memoryview
-    of them; `view.cast("B").cast("h")` has those of 16 with a sign, and `"i"`, `"q"`, `"f"`, `"d"` the others."""
+    """A list of unsigned numbers of 16, 32 or 64 bits. It also equals an `array` with the same numbers. `view` is a
+    memoryview of the numbers. `view.cast("B").cast("h")` has signed numbers of 16 bits, and `"i"`, `"q"`, `"f"` and
+    `"d"` stand for the other types."""
 
     __slots__ = ()
 
     @property
     def kind(self) -> Literal["u16", "u32", "u64"]:
-        """The size of the numbers."""
+        """The word for the size of the numbers."""
         return _KINDS[self._entry.kind]  # type: ignore[no-any-return]
 
 
 class Pointers(List["Value"]):
-    """A list of pointers: the object that each refers to."""
+    """A list of pointers. An element is the object that a pointer refers to."""
 
     __slots__ = ("_slots",)
     kind: Literal["pointers"] = "pointers"
@@ -545,12 +551,12 @@ class Pointers(List["Value"]):
         return self._slots._item(i)
 
     def rows(self) -> Sequence[Body]:
-        """A struct of each pointer."""
+        """Returns a struct for each pointer."""
         places = self._slots._places
         return _Made(len(self), lambda i: Row(_no_words(), Slots(self._message, places[i:i + 1])))
 
     def pointers(self) -> Sequence[Value]:
-        """Itself."""
+        """Returns this list."""
         return self
 
 
@@ -566,17 +572,18 @@ class Rows(List[Row]):
 
     def _item(self, i: int) -> Row:
         words, slots = self._entry.words, self._entry.slots
-        # The rows come after the tag.
+        # The structs come after the tag.
         begin = self._entry.offset + 8 + 8 * i * (words + slots)
         places = self._places[i * slots:(i + 1) * slots]
         return Row(self._message._numbers(begin, words, "Q", 8), Slots(self._message, places))
 
     def rows(self) -> Sequence[Body]:
-        """Itself."""
+        """Returns this list."""
         return self
 
     def numbers(self, bits: int) -> Sequence[int]:
-        """The first field of each: 0 where the structs have no data words. No list of structs is read as bits."""
+        """Returns the first field of each struct, or 0 if the structs have no data words. No list of structs is read as
+        bits."""
         if bits not in _WIDTHS:
             return super().numbers(bits)
         if not self._entry.words:
@@ -584,7 +591,7 @@ class Rows(List[Row]):
         return _Made(len(self), lambda i: self._item(i).uint(bits, 0))
 
     def pointers(self) -> Sequence[Value]:
-        """The first pointer of each: null where the structs have no pointers."""
+        """Returns the first pointer of each struct, or null if the structs have no pointers."""
         if not self._entry.slots:
             return _Made(len(self), lambda i: Null(self._message, -1))
         return Slots(self._message, self._places[::self._entry.slots])
@@ -594,10 +601,10 @@ class Rows(List[Row]):
 
 
 Value = Union[Null, Struct, Voids, Bits, Bytes, Numbers, Pointers, Rows, Capability]
-"""What a pointer may refer to, told by its `kind` or its class."""
+"""An object that a pointer may refer to. Its `kind` or its class says which one it is."""
 
 _KINDS: Any = {lib.CAPN_KIND_U16: "u16", lib.CAPN_KIND_U32: "u32", lib.CAPN_KIND_U64: "u64"}
-# The format of a number, and its bytes.
+# The format of a number, and its size in bytes.
 _FORMATS = {
     lib.CAPN_KIND_BYTES: ("B", 1),
     lib.CAPN_KIND_U16: ("H", 2),
@@ -620,7 +627,7 @@ _CLASSES: Any = {
 
 
 def _same(one: Any, other: Any) -> bool:
-    """Whether two objects or rows have the same value."""
+    """Returns whether two objects or elements of a list of structs have the same value."""
     left = [(one, other)]
     while left:
         one, other = left.pop()
@@ -628,7 +635,8 @@ def _same(one: Any, other: Any) -> bool:
         if kind != other.kind:
             return False
         if kind == "struct":
-            # Zeros at the end mean nothing, and the bytes of a word follow each other from the least significant on.
+            # The stored bytes of a word begin with the least significant one. Zero words at the end of a struct make no
+            # difference.
             if one.words.tobytes().rstrip(b"\0") != other.words.tobytes().rstrip(b"\0"):
                 return False
             few, many = sorted((one.slots, other.slots), key=len)
@@ -652,7 +660,8 @@ def _same(one: Any, other: Any) -> bool:
 
 
 class _Closed:
-    """The entries of a message that was closed: none, but those that objects have are kept as long as these."""
+    """Stands for the entries of a message that was closed, and has none. It keeps the entries that objects still
+    use."""
 
     __slots__ = ("_kept",)
 
@@ -664,16 +673,17 @@ class _Closed:
 
 
 class Message:
-    """A message that is valid within limits, and is read in place: from the bytes that were passed, or from their copy.
-    It holds them until it is closed, or until no object of it is left.
+    """A message that is valid within limits, and is read in place. The message holds the bytes that were passed, or a
+    copy of them, until it is closed or none of its objects is left.
 
     Two messages are equal if their roots are. A message has no hash."""
 
     __slots__ = ("_data", "_entries", "_form", "_bounds", "_places", "_views", "paid", "visits")
     paid: int
-    """The cost of reading it, in words."""
+    """The cost in words of reading the message."""
     visits: int
-    """How many pointers are followed, each as often as it is met. The root pointer is one, and null pointers count."""
+    """The number of pointers that are followed. A pointer counts each time that it is met. The root pointer and null
+    pointers count, too."""
 
     def __init__(
         self, data: memoryview, entries: Any, paid: int, visits: int, form: int, bounds: Any, in_place: bool
@@ -681,29 +691,30 @@ class Message:
         self._data, self._entries, self.paid, self.visits = data, entries, paid, visits
         # The form of the bytes, and the limits within which they were accepted.
         self._form, self._bounds = form, bounds
-        # Of an entry with objects below its slots, where the entries of these slots are.
+        # For an entry with objects below its slots, the indexes of the entries of these slots.
         self._places: dict[int, Sequence[int]] = {}
-        # The views of bytes that are not ours, to be released when the message is closed.
+        # The views of the caller's bytes. They are released when the message is closed.
         self._views: WeakValueDictionary[int, memoryview] | None = WeakValueDictionary() if in_place else None
 
     @property
     def words(self) -> int:
-        """The words of all segments."""
+        """The number of words of all segments."""
         words = len(self._data) // 8
         if self._form == lib.CAPN_BARE:
             return words
-        # Of the segment table there are four bytes for the number of segments, and for each.
+        # The segment table has four bytes for the number of segments, and four bytes for the size of each segment.
         segments = 1 + int.from_bytes(self._data[:4], "little")
         return words - (segments + 2) // 2
 
     @property
     def root(self) -> Value:
-        """What the root pointer refers to."""
+        """The object that the root pointer refers to."""
         return self._object(0)
 
     def at(self, *way: int) -> Value | Row | None:
-        """Returns what is at a path of numbers from the root, as `capn show --at` prints it, or None if nothing is
-        there. In a struct a number means a pointer, and in a list of pointers or of structs an element."""
+        """Returns the object at a path of numbers from the root, as `capn show --at` prints it, or None if there is no
+        such object. In a struct, a number selects a pointer. In a list of pointers or of structs, it selects an
+        element."""
         found: Value | Row = self.root
         for step in way:
             number = index(step)
@@ -720,8 +731,8 @@ class Message:
         return found
 
     def close(self) -> None:
-        """Releases the bytes. `root` and `at` raise a `ValueError` from then on, and so does an object of the message
-        that is asked for what it refers to, or for an element. `paid` and `visits` stay readable.
+        """Releases the bytes. From then on, `root` and `at` raise a `ValueError`. So does an object of the message if
+        it is asked for the object that a pointer refers to, or for an element. `paid` and `visits` stay readable.
 
         With `in_place=True` each `words` and `view` that the package made is released, so that it raises a
         `ValueError` too, and the bytes may be changed again. A slice or a cast that the caller made of such a view is
@@ -754,7 +765,7 @@ class Message:
         return f"<capn message, {self.paid} words paid, {self.visits} slots>"
 
     def _whole(self) -> tuple[int, Any, Any]:
-        """What the library is given of a message: the number of its form, its bytes, its limits."""
+        """Returns the message as the library takes it: the number of its form, its bytes, and its limits."""
         self._entries[0]
         return self._form, ffi.from_buffer(self._data), self._bounds
 
@@ -769,8 +780,8 @@ class Message:
         return view
 
     def _below(self, at: int, count: int) -> Sequence[int]:
-        """Where the entries of this number of slots are that come after an entry. Slots with nothing below them, as
-        most have, need no list."""
+        """Returns the indexes of the entries of `count` slots, which come after the entry `at`. Most slots have nothing
+        below them, and then a range is enough."""
         if self._entries[at].span == count + 1:
             return range(at + 1, at + 1 + count)
         places = self._places.get(at)
@@ -791,8 +802,8 @@ def read(
     most_slots: int | None = None,
     in_place: bool = False,
 ) -> Message:
-    """Checks one message within limits, and lists its pointers in an index, so that it can be read in place: what is
-    read after that follows no pointer. A packed message is unpacked first.
+    """Checks one message within limits, and lists its pointers in an index. Then the message can be read in place,
+    without following a pointer again. A packed message is unpacked first.
 
     An index takes 24 bytes for each pointer. A message has at most one pointer more than it costs words. With
     `most_slots` a message with more pointers raises a `Refusal` with the name "TooManySlots" and their number as `at`,
@@ -831,7 +842,8 @@ def read(
 
 
 def _viewed(data: Buffer, in_place: bool) -> tuple[memoryview, bool]:
-    """A view of bytes that nothing can change, or of those of the caller's, and whether they are the caller's."""
+    """Returns a view, and whether it is of the caller's bytes. Otherwise the view is of bytes that nothing can
+    change."""
     if type(data) is bytearray and not in_place:
         data = bytes(data)
     try:

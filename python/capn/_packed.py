@@ -1,4 +1,4 @@
-"""The messages of a packed file, read as they come in."""
+"""Readers of the messages of a packed file, as the bytes come in."""
 from __future__ import annotations
 
 from io import FileIO
@@ -19,8 +19,8 @@ _one_type, _pipe_type = ffi.typeof("capn_packed_one *"), ffi.typeof("capn_pipe *
 
 
 class Packed(Messages):
-    """The same of a packed stream. If a file can be looked into before it is read, a message is taken at once; else it
-    is read group by group. What is held is packed."""
+    """The messages of a packed stream. If the reader can look into a file before it reads, it takes a message at once.
+    Otherwise it reads group by group. The bytes that it holds are packed."""
 
     __slots__ = ("_peek", "_ready", "_one", "_out", "_words", "_has_begun")
 
@@ -28,13 +28,13 @@ class Packed(Messages):
         self, read: Callable[[int], Any], peek: Callable[[int], Any] | None, splitter: Splitter, one: Any = None
     ) -> None:
         super().__init__(read, splitter)
-        # Where words are unpacked to, and what has the bytes of it all.
+        # The buffer for unpacked words, and a view of all its bytes.
         self._peek, self._out = peek, splitter._out
         self._words = ffi.buffer(splitter._out)
         self._one = one or ffi.new(_one_type, {"limits": self._bounds[0], "out": self._out, "room": PIECE})
-        # Messages that a group ended all at once, the last one first.
+        # Messages that ended in the same group of packed bytes, the last one first.
         self._ready: list[bytes] = []
-        # Whether it may be within a message, or can't be looked into.
+        # Whether a message may have begun, or the reader can't look into the file.
         self._has_begun = peek is None
 
     def _is_between(self) -> bool:
@@ -46,7 +46,7 @@ class Packed(Messages):
         new = self._new
         if self._has_begun or new:
             return self._any()
-        # As most messages are: short, all of it can be seen, and it ends where a group does.
+        # Most messages are short, can be seen whole, and end where a group of packed bytes ends.
         seen = self._peek(1)  # type: ignore[misc]
         if seen.__class__ is bytes and seen:
             one, size = self._one, len(seen)
@@ -68,8 +68,8 @@ class Packed(Messages):
         return self._any()
 
     def _crossing(self, seen: bytes) -> bytes:
-        """The next message, of which all that was seen is a part: by looks at what comes next, if those have the
-        rest of it."""
+        """Returns the next message, of which only the beginning was seen. Looks at the bytes that come next, which may
+        have the rest of the message."""
         one, peek, new, taken = self._one, self._peek, self._new, 0
         self._has_begun = True
         while not taken and one.status == PACKED_CUT:
@@ -106,7 +106,7 @@ class Packed(Messages):
         return frame
 
     def _whole(self) -> bytes:
-        """The next message, of whatever shape."""
+        """Returns the next message, whatever its shape."""
         splitter = self._splitter
         while not self._ready:
             if self._over is not None:
@@ -131,7 +131,8 @@ class Packed(Messages):
         return frame
 
     def _gives(self, at: int = 0, words: int = 0) -> None:
-        """Gives what is held to the splitter, of which the first bytes were unpacked already, and keeps its refusal."""
+        """Gives the held bytes to the splitter, and keeps the splitter's refusal. The first `at` of these bytes were
+        already unpacked to `words` bytes."""
         splitter, given = self._splitter, bytes(self._held)
         splitter.number, splitter.offset, splitter._taken = self._number, self._offset, self._taken
         found, fault = splitter._fed(given, at, words)
@@ -151,11 +152,12 @@ class Packed(Messages):
             raise
 
     def _at_once(self, peek: Callable[[int], Any]) -> bytes | None:
-        """The next message, if what is held and what can be seen have all of it. Else gives the splitter what can be
-        seen of it, or the beginning of a long message, or all groups of one that ends within a group."""
+        """Returns the next message if the held bytes and the bytes that can be seen have all of it. Otherwise returns
+        None, and gives bytes to the splitter: those that can be seen, the beginning of a long message, or all groups of
+        a message that ends within a group."""
         held, seen, report, out = bytes(self._held), peek(1), self._report, self._out
         if not seen:
-            # Reading says whether the file has ended.
+            # Only a read says whether the file has ended.
             if held:
                 self._gives()
             else:
@@ -191,12 +193,12 @@ class Packed(Messages):
             need = report.length
         else:
             self._reads(taken - len(held))
-        # The splitter unpacks what comes after that, and nothing twice.
+        # The splitter unpacks the bytes after the group, and unpacks nothing twice.
         self._gives()
         return None
 
     def _reads(self, count: int) -> bool:
-        """Reads as many bytes of those that were seen, and holds them: whether they all came."""
+        """Reads and holds `count` bytes that were seen. Returns whether all of them came."""
         if count <= 0:
             return True
         self._more(count)
@@ -210,8 +212,8 @@ class Packed(Messages):
         return size == count
 
     def _part(self, seen: bytes) -> None:
-        """Reads what can be seen of the message of which the splitter has the beginning, but no group after that in
-        which it ends."""
+        """The splitter has the beginning of a message. Reads the bytes of this message that can be seen, but no group
+        after the group in which it ends."""
         splitter, report = self._splitter, self._report
         held, text = len(splitter._text), splitter._text + seen
         room = min(max(splitter._need, HEAD) - len(splitter._held), PIECE)
@@ -227,12 +229,13 @@ class Packed(Messages):
 
 
 class Piped(Packed):
-    """The same of a pipe that nothing buffers. A message that is there is looked at and read by one call."""
+    """The packed messages of a pipe that nothing buffers. If a message is there, one call looks at it and reads it."""
 
     __slots__ = ("_number_of", "_pipe")
 
     def __init__(self, file: FileIO, splitter: Splitter) -> None:
-        # What ends a pipe closes the numbers in it: so these are written before it can be called.
+        # `capn_pipe_end` closes the file descriptors in the structure. So `capn_pipe_begin` sets them before
+        # `capn_pipe_end` can be called.
         begun = _room(_pipe_type)
         lib.capn_pipe_begin(begun, splitter._bounds, splitter._out, PIECE)
         pipe = self._pipe = ffi.gc(begun, lib.capn_pipe_end)
@@ -242,7 +245,7 @@ class Piped(Packed):
             return seen[0:_peek_at(number_of(), pipe)]  # type: ignore[no-any-return]
 
         super().__init__(file.read, look, splitter, ffi.addressof(pipe, "one"))
-        # The number that the system gave to the file; it raises an exception if the file is closed.
+        # A function that returns the file descriptor. It raises an exception if the file is closed.
         self._number_of = number_of
 
     def _next(self) -> bytes:
@@ -259,7 +262,7 @@ class Piped(Packed):
                 pipe.whole = 0
                 return frame  # type: ignore[no-any-return]
             if pipe.have:
-                # The pipe gave something else than was seen in it, since others read it.
+                # The pipe gave other bytes than those that were seen in it, since somebody else reads the pipe.
                 came = ffi.buffer(pipe.came)
                 self._held, self._has_begun = came[0:pipe.have], True
                 pipe.have = 0

@@ -1,11 +1,11 @@
-"""What a stream says of the messages that it returned."""
+"""The properties of a stream that are about the messages it has returned."""
 from __future__ import annotations
 
 __all__ = ["Places"]
 
 
 class Places:
-    """How many messages were returned, and where the last and the next one begin."""
+    """The number of messages that were returned, and the places at which the last and the next message begin."""
 
     __slots__ = ("_number", "_offset", "_last")
 
@@ -18,12 +18,12 @@ class Places:
 
     @property
     def number(self) -> int:
-        """How many messages were returned."""
+        """The number of messages that were returned."""
         return self._number
 
     @property
     def offset(self) -> int:
-        """Where the next one begins, in the unpacked bytes."""
+        """The place at which the next message begins, in the unpacked bytes."""
         return self._offset
 
     @property
@@ -33,5 +33,5 @@ class Places:
 
     @property
     def last_offset(self) -> int | None:
-        """Where the last message began, in the unpacked bytes, or None."""
+        """The place at which the last message began, in the unpacked bytes, or None."""
         return None if self._last is None else self.offset - len(self._last)

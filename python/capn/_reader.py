@@ -1,4 +1,4 @@
-"""The messages of a file, read as they come in.
+"""Readers of the messages of a file, as the bytes come in.
 
 A signal's handler may raise an exception after any call that Python makes, and what that call answered is lost then. So
 a file is read by a call of C that puts what it gave into a list, `_new`. From there bytes are taken, and messages are
@@ -19,18 +19,19 @@ __all__ = ["Ahead", "Buffered", "Messages", "Raw"]
 
 _raw, _raw_type = ffi.new_allocator(should_clear_after_alloc=False), ffi.typeof("capn_raw *")
 _first, _read_one = lib.capn_first, lib.capn_read_one
-# How many tables are remembered at most, each with how many bytes follow it.
+# The greatest number of segment tables that a reader remembers. With each table, it remembers the number of bytes that
+# follow the table.
 _TABLES = 256
 _HEADS, _PIECES, _ONES = (HEAD,), (PIECE,), (1,)
-# What the messages take at most that are unpacked ahead, unless it is one message.
+# The greatest number of bytes of the messages that are unpacked ahead. A single message may have more.
 _AHEAD = 1 << 18
-# From how many bytes on a buffered file is read without its buffer.
+# If a buffered file is asked for at least this number of bytes, its buffer isn't filled first.
 _LITTLE = 2048
 
 
 class Messages(Places, Iterator[bytes]):
-    """The messages of a stream, each with its segment table; `messages` makes it. It goes on after an exception of the
-    file, and after one of a signal's handler.
+    """The messages of a stream, each with its segment table. The function `messages` makes this iterator. It goes on
+    after an exception of the file, and after an exception of a signal handler.
 
     A loop over it loses no message then. If `next` is called, the exception may come when it is about to return: the
     message is counted, and `last` is that message.
@@ -44,28 +45,29 @@ class Messages(Places, Iterator[bytes]):
     def __init__(self, read: Callable[[int], Any], splitter: Splitter) -> None:
         self._read, self._splitter = read, splitter
         self._report, self._bounds = splitter._report, splitter._bounds
-        # What `_size` answered of the tables that came, by the table: to find it here is faster than to call.
+        # The results of `_size`, by the segment table. To look a result up is faster than to call.
         self._sizes: dict[bytes, int] = {}
-        # What the file gave, and was not taken yet.
+        # The bytes that the file gave, and that were not taken yet.
         self._new: list[Any] = []
-        # The bytes of the message that has begun, and how many say more about it.
+        # The bytes of the message that has begun, and how many bytes are needed to know more about it.
         self._held: bytes | bytearray = b""
         self._need = LEAST
-        # What each call raises from now on: the end, or the refusal.
+        # The exception that each later call raises: the end of the stream, or the refusal.
         self._over: Exception | None = None
-        # Of a packed stream, how many bytes came before what is held.
+        # In a packed stream, the number of bytes before those that are held.
         self._taken = 0
         self._number = self._offset = 0
         self._last = None
-        # Whether a call is being made.
+        # Whether a call runs now.
         self._is_busy = False
 
     def _is_between(self) -> bool:
-        """Whether the file stands between two messages, and has not been refused."""
+        """Returns whether the file is between two messages, and no message was rejected."""
         return not self._held and not self._new and self._over is None
 
     def __next__(self) -> bytes:
-        # No line between the test and the flag calls anything, so no other thread and no handler runs there.
+        # Between this test and the setting of the flag, no line makes a call. So no other thread and no signal handler
+        # runs there.
         if self._is_busy:
             raise busy("this stream")
         self._is_busy = True
@@ -78,7 +80,7 @@ class Messages(Places, Iterator[bytes]):
         new = self._new
         if new or self._held or self._over is not None:
             return self._any()
-        # As most messages are: of one segment, short, and read by two calls of the file.
+        # Most messages are short and have one segment. They are read by two calls of the file.
         read = self._read
         new.extend(map(read, _HEADS))
         if new and type(head := new[0]) is bytes:
@@ -94,11 +96,12 @@ class Messages(Places, Iterator[bytes]):
         return self._any()
 
     def _size(self, head: bytes) -> int:
-        """How many bytes follow the table of a short message of one segment; 0 of what begins otherwise."""
+        """Returns the number of bytes that follow the segment table of a short message of one segment. Returns 0 if
+        `head` isn't such a table."""
         report, sizes = self._report, self._sizes
         if len(head) != HEAD or head[:4] != ONE or _first(head, HEAD, self._bounds, report) != FRAME_CUT:
             return 0
-        # The frame of one segment is as long as its table says, of which all of these bytes are there.
+        # The length of a message of one segment follows from its segment table, which `head` has in full.
         size: int = report.length - HEAD
         if size > PIECE:
             return 0
@@ -107,14 +110,14 @@ class Messages(Places, Iterator[bytes]):
         return size
 
     def _more(self, size: int) -> None:
-        """Has the file give at most so many bytes."""
+        """Makes the file give at most `size` bytes."""
         self._new.extend(map(self._read, (size,)))
         if not self._new:
-            # So a file ends a loop by an exception of its own.
+            # The `read` of the file has raised a StopIteration, which ends the loop over the messages.
             raise StopIteration
 
     def _take(self) -> None:
-        """Holds what the file gave, or raises what it means that it gave nothing."""
+        """Takes the bytes that the file gave. If the file gave no bytes, raises the exception for the reason."""
         new = self._new
         while new:
             piece = new[0]
@@ -124,7 +127,7 @@ class Messages(Places, Iterator[bytes]):
             del new[0]
 
     def _any(self) -> bytes:
-        """The next message, of whatever shape, of which some bytes are held."""
+        """Returns the next message, whatever its shape. Some of its bytes may already be held."""
         report = self._report
         while True:
             if self._over is not None:
@@ -134,7 +137,7 @@ class Messages(Places, Iterator[bytes]):
             if have < need:
                 missing = max(need, HEAD) - have
                 if missing > PIECE:
-                    # Memory grows as bytes come.
+                    # The memory grows only as the bytes come.
                     missing = min(missing, max(PIECE, have))
                 self._more(missing)
                 continue
@@ -142,7 +145,7 @@ class Messages(Places, Iterator[bytes]):
             status = _first(frame, have, self._bounds, report)
             if status == OK:
                 need = report.length
-                # What is left, if the file gave more than it was asked for.
+                # If the file gave more bytes than it was asked for, keeps the rest.
                 self._held, self._need = frame[need:], LEAST
                 self._last = frame = frame[:need]
                 self._number += 1
@@ -171,29 +174,29 @@ class Messages(Places, Iterator[bytes]):
         raise self._over
 
     def _end(self) -> None:
-        """Refuses a message that is cut."""
+        """Refuses a truncated message."""
         if self._held:
             self._refuse(FRAME_CUT)
 
 
 class Buffered(Messages):
-    """The same of a buffered file that can't be wound, as of a socket. Its `read` would lose what it has read if a
-    signal's handler raised while it waits for more. So `read1` reads, which gives what is there and waits for some
-    bytes at most. It does not fill the buffer, as a look does."""
+    """The messages of a buffered file that isn't seekable, such as that of a socket. If a signal handler raised while
+    `read` waits for more bytes, `read` would lose the bytes that it has read. So `read1` reads instead. It returns the
+    bytes that are there, and waits only if there are none. It doesn't fill the buffer, as `peek` does."""
 
     __slots__ = ("_peek", "_some", "_left")
 
     def __init__(self, file: Any, splitter: Splitter) -> None:
         super().__init__(file.read, splitter)
         self._peek, self._some = file.peek, file.read1
-        # How many bytes the buffer has, unless others read of it: with fewer it is filled.
+        # The number of bytes in the buffer, unless others read from it. If there are too few, the buffer is filled.
         self._left = 0
 
     def _next(self) -> bytes:
         new = self._new
         if new or self._held or self._over is not None:
             return self._any()
-        # As most messages are: of one segment, short, and read by two calls of the file.
+        # Most messages are short and have one segment. They are read by two calls of the file.
         some = self._some
         if self._left < HEAD:
             self._left = len(self._peek(1))
@@ -224,20 +227,20 @@ class Buffered(Messages):
         new.extend(map(self._some, (size,)))
         self._left -= size
         if not new[0]:
-            # One byte more tells the end from none now.
+            # A read of one more byte tells whether the file has ended, or has no bytes now.
             del new[0]
             new.extend(map(self._read, _ONES))
 
 
 class Raw(Messages):
-    """The same of a file that buffers nothing and can't be wound, as a pipe: the system's reads of a message are made
-    by one call."""
+    """The messages of a file that isn't buffered or seekable, such as a pipe. One call makes the system's reads for a
+    message."""
 
     __slots__ = ("_number_of", "_raw", "_words")
 
     def __init__(self, file: FileIO, splitter: Splitter) -> None:
         super().__init__(file.read, splitter)
-        # The number that the system gave to the file; it raises an exception if the file is closed.
+        # A function that returns the file descriptor. It raises an exception if the file is closed.
         self._number_of = file.fileno
         self._raw = _raw(_raw_type)
         self._raw.limits, self._raw.have, self._raw.whole = self._bounds[0], 0, 0
@@ -256,22 +259,23 @@ class Raw(Messages):
             self._offset += count
             raw.whole = 0
             return frame  # type: ignore[no-any-return]
-        # The file says what it means that no more came.
+        # No more bytes came. The next read of the file says why.
         self._held = self._words[0:raw.have]
         raw.have = 0
         return self._any()
 
 
 class Ahead(Messages):
-    """The same of a stream that has nothing else: it is read in pieces, as many bytes as there are, up to 64 KiB."""
+    """The messages of any other stream. The reader takes as many bytes as there are, up to 64 KiB at once."""
 
     __slots__ = ("_ready", "_some")
 
     def __init__(self, read: Callable[[int], Any], some: Callable[[int], Any], splitter: Splitter) -> None:
         super().__init__(read, splitter)
-        # What reads as many bytes as there are, and does not tell none at the end from none now.
+        # A function that reads as many bytes as there are. If it returns none, the file may have ended, or may have no
+        # bytes now.
         self._some = some
-        # Messages that are whole, the last one first.
+        # The messages that are complete, the last one first.
         self._ready: list[bytes] = []
 
     def _next(self) -> bytes:

@@ -1,4 +1,4 @@
-"""Refusals of what was passed, with the program's texts."""
+"""The exceptions for input that the library rejects, with the texts that the program prints."""
 from __future__ import annotations
 
 from functools import cache, partial
@@ -7,13 +7,14 @@ from typing import Any, Callable
 from ._capn import ffi, lib
 from ._stop import FIRST, LAST, Stop, kept, stop_of
 
-# Statuses from here on are refusals of what was passed.
+# The statuses between these two numbers say that the input is rejected.
 _FIRST_REFUSAL = 16
 _LAST_REFUSAL = 127
 
 
 class Refusal(ValueError):
-    """A message is rejected: it is invalid, goes over a limit, or has a capability. The text is the program's.
+    """A message is rejected: it is invalid, exceeds a limit, or has a capability. The text is the text that the program
+    prints.
 
     - `name` is the name of the error, such as "Range" or "FrameCut", and `meaning` says in words what that is.
     - `place` is the segment and the word of the pointer that is wrong, or None if the error isn't about a pointer.
@@ -31,7 +32,7 @@ class Refusal(ValueError):
     number: int | None = None
     offset: int | None = None
     which: int | None = None
-    # What looks for the way and the byte, until it has found them.
+    # A function that finds the path and the byte of the error. It is None if nothing is left to find.
     _look: Callable[[], Stop] | None = None
     _stop: Stop = (None, None)
 
@@ -54,20 +55,20 @@ class Refusal(ValueError):
 
     @property
     def byte(self) -> int | None:
-        """Where the word of that pointer begins, as `capn explain` prints it. It counts bytes from the start of the
-        message: of what a packed message unpacks to, of the message with its segment table for one in segments, and of
-        the message at `offset` in a stream. None if the error isn't about a pointer, and for a message without a first
-        word."""
+        """The offset of the wrong pointer's word, as `capn explain` prints it. It is counted in bytes from the start of
+        the message. In a packed message, it counts the unpacked bytes. In a message in segments, it counts as if the
+        segment table came first. In a stream, it counts from the start of the message at `offset`. None if the error
+        isn't about a pointer, and for a message without a first word."""
         return self._found()[1]
 
     @property
     def meaning(self) -> str:
-        """What the error means, such as "an object lies outside of its segment"."""
+        """The meaning of the error, such as "an object lies outside of its segment"."""
         return _meanings().get(self.name, "")
 
     @property
     def text(self) -> str:
-        """The error as the program prints it of one message, without `number` and `offset`."""
+        """The text of the error as the program prints it for one message, without `number` and `offset`."""
         return str(self.args[0])
 
     def __str__(self) -> str:
@@ -76,7 +77,7 @@ class Refusal(ValueError):
         return f"message {self.number} at {self.offset}: {self.text}"
 
     def __reduce__(self) -> tuple[Any, ...]:
-        # A copy has the place, and no message.
+        # A copy has the path and the byte, but doesn't keep the message.
         self._found()
         return type(self), self.args, {name: one for name, one in vars(self).items() if name != "_look"}
 
@@ -88,13 +89,13 @@ class Refusal(ValueError):
         return self._stop
 
     def _of_message(self, number: int, offset: int) -> Refusal:
-        """The same, of a message of a stream."""
+        """Returns this refusal, with the number and the offset of its message in a stream."""
         self.number, self.offset = number, offset
         return self
 
 
 def failure(status: int, report: Any) -> Exception:
-    """What to raise for a status that is no answer."""
+    """Returns the exception for a status that isn't a result."""
     if status == lib.CAPN_MEMORY:
         return MemoryError("capn: out of memory")
     name = ffi.string(lib.capn_status_name(status)).decode()
@@ -107,7 +108,7 @@ def failure(status: int, report: Any) -> Exception:
 
 
 def failure_of_words(status: int, report: Any) -> Exception:
-    """The same of words alone, as `pack` takes them: the program names no form."""
+    """Returns the exception for words, as `pack` takes them. Its text names no form, as in the program."""
     fault = failure(status, report)
     if isinstance(fault, Refusal):
         return Refusal(fault.text.removeprefix("bare: "), fault.name, at=fault.at)
@@ -115,8 +116,9 @@ def failure_of_words(status: int, report: Any) -> Exception:
 
 
 def refused(status: int, report: Any, form: int, data: Any, given: Any, bounds: Any) -> Exception:
-    """The same of a message: an object, what the library was given of it, and in which form. The caller's bytes are let
-    go of, so that neither a refusal nor its traceback holds them."""
+    """Returns the exception for a message. `data` is the caller's object, `given` is what the library got of it, and
+    `form` is the form of its bytes. Lets go of the caller's bytes, so that neither a refusal nor its traceback holds
+    them."""
     fault, own = failure(status, report), kept(data, given)
     try:
         if isinstance(fault, Refusal) and fault.place is not None:
@@ -130,14 +132,14 @@ def refused(status: int, report: Any, form: int, data: Any, given: Any, bounds: 
 
 
 def let_go(given: Any) -> None:
-    """Lets go of what the library was given, where that is a buffer."""
+    """Releases what the library got, if it is a buffer."""
     if type(given) is not bytes:
         ffi.release(given)
 
 
 @cache
 def _meanings() -> dict[str, str]:
-    """The name of each error, with what it means."""
+    """Returns a dictionary: a key is the name of an error, and its value is the error's meaning."""
     found = {"TooManySlots": "the message has more pointers than `most_slots`"}
     for status in range(_FIRST_REFUSAL, _LAST_REFUSAL + 1):
         name = ffi.string(lib.capn_status_name(status)).decode()
@@ -147,7 +149,7 @@ def _meanings() -> dict[str, str]:
 
 
 def _text(status: int, report: Any) -> str:
-    """The text of a refusal, as the library has it."""
+    """Returns the library's text for an error."""
     room = lib.capn_refusal_text(status, report, ffi.NULL, 0) + 1
     out = ffi.new("char[]", room)
     lib.capn_refusal_text(status, report, out, room)

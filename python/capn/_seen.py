@@ -1,4 +1,4 @@
-"""The messages of a file that can be wound, and what is best for each file."""
+"""Readers of the messages of a file that is seekable, and the choice of a reader for a file."""
 from __future__ import annotations
 
 from io import BufferedRandom, BufferedReader, BufferedRWPair, BytesIO, FileIO
@@ -14,23 +14,25 @@ from ._splitter import HEAD, MEMORY, ONE, PIECE, Splitter
 
 __all__ = ["Seen", "reader"]
 
-# From how many bytes on messages are long, and how many are looked at of these.
+# A message is long from the first number of bytes on. The second number is how many bytes are looked at if messages are
+# long.
 _LONG, _FEW = 8192, 4096
-# From how many bytes on a message is passed over in a file that buffers: beyond a buffer that takes less than reading.
+# In a buffered file, a message of at least this number of bytes is passed over, and not read again. For shorter
+# messages, reading takes less time than setting the position beyond the buffer.
 _BEYOND, _NEVER = 2048, 1 << 64
 _BUFFERED = (BufferedReader, BufferedRandom, BufferedRWPair)
-# From where on a file is wound.
+# The argument `whence` of `seek` for offsets from the present position.
 _HERE = (1,)
-# How many messages are found at once.
+# The greatest number of messages that are found at once.
 _MOST = 128
 _look_at, _look_at_packed = lib.capn_look_at, lib.capn_look_at_packed
 
 
 class Seen(Messages):
-    """The messages of a file that can be wound, as one on a disk can. Its bytes are looked at, 64 KiB at once, and all
-    messages found in them by one call. Then each is read by one call of the file, which has to give what was seen. If
-    it does not, since another one has wound the file, read of it or changed it, the file is wound back, and read as
-    others are."""
+    """The messages of a seekable file, such as a file on a disk. The reader looks at 64 KiB at once, and one call finds
+    all messages in these bytes. Then one call of the file reads each message, and has to return the bytes that were
+    seen. If it returns other bytes, because somebody else has moved the position, read from the file or changed it, the
+    reader sets the position back, and reads as for other files."""
 
     __slots__ = ("_rest", "_bytes_at", "_seek", "_look", "_out", "_some", "_text", "_ready", "_found",
                  "_ends", "_takes", "_short", "_place")
@@ -44,21 +46,24 @@ class Seen(Messages):
         splitter: Splitter,
     ) -> None:
         super().__init__(file.read, splitter)
-        # What reads all other messages, as those that are longer.
+        # The reader for all other messages, such as those that are longer.
         self._rest = Packed(file.read, peek, splitter) if splitter._packed else Messages(file.read, splitter)
-        # What answers the bytes at a place of the file, at most so many, and how many are asked for.
+        # A function that returns at most a given number of bytes at a place of the file, and the number of bytes to ask
+        # for.
         self._bytes_at, self._some = bytes_at, PIECE
-        # To learn by `seek` where a file stands is faster than by `tell`, which asks the system.
+        # `seek` returns the position of a file faster than `tell`, which asks the system.
         self._seek: Callable[[int, int], int] = file.seek
         self._look, self._out = splitter._look, splitter._out
-        # What was seen, and its messages that were not handed out yet, the last one first: how many bytes of the file
-        # each has, and where they begin in what was seen; and the message, of one that is packed or passed over.
+        # The bytes that were seen, and the messages in them that were not handed out yet, the last one first. A message
+        # has its number of bytes in the file, and the place at which it begins in the bytes that were seen. A message
+        # that is packed or passed over also has its unpacked bytes.
         self._text = b""
         self._ready: list[tuple[int, int, bytes | None]] = []
-        # From how many bytes on a message is not read again, but passed over. The place is then where what was seen
-        # begins in the file, else -1.
+        # Messages of at least `short` bytes are not read again, but passed over. The place is then the offset in the
+        # file of the bytes that were seen. Otherwise it is -1.
         self._short, self._place = short, -1
-        # How many messages were seen, and where they end in the unpacked bytes, and in what was seen.
+        # The number of messages that were seen, and the places at which they end, in the unpacked bytes and in the
+        # bytes that were seen.
         self._found = 0
         self._ends: list[int] = []
         self._takes: list[int] = []
@@ -77,7 +82,8 @@ class Seen(Messages):
         if self._ready or rest._is_between() and self._is_found():
             ready = self._ready
             taken, at, frame = ready[-1]
-            # What the file answers is in `new`, also after an exception: so it is wound once for each read.
+            # The file's answer is in `new`, also after an exception. So the position of the file is set back once for
+            # each read.
             if self._place < 0:
                 if not new:
                     new.extend(map(self._read, (taken,)))
@@ -96,7 +102,7 @@ class Seen(Messages):
                     return frame  # type: ignore[return-value]
             if len(new) < 2:
                 new.extend(map(self._seek, (-taken,), _HERE))
-            # What was seen says nothing of what comes next.
+            # The bytes that were seen don't say what comes next.
             self._report.length = 0
             del new[:]
         self._close()
@@ -116,7 +122,7 @@ class Seen(Messages):
         self._ready, self._found = [], 0
 
     def _is_found(self) -> bool:
-        """Looks at the bytes that come next: whether there are whole messages."""
+        """Looks at the bytes that come next. Returns whether they have complete messages."""
         self._close()
         look, report, out, frame = self._look, self._report, self._out, None
         place = self._seek(0, 1)
@@ -132,7 +138,7 @@ class Seen(Messages):
             raise failure(status, report)
         ends = self._ends = ffi.unpack(look.ends, look.count)
         takes = self._takes = ends if out is None else ffi.unpack(look.takes, look.count)
-        # Of long messages it is enough to see how long they are.
+        # If messages are long, it is enough to see their lengths.
         mean = look.take // len(ends) if ends else report.length
         self._some = PIECE if mean <= _LONG else _FEW
         self._place = -1 if mean < self._short else place
@@ -150,7 +156,7 @@ class Seen(Messages):
         return found > 0
 
     def _long(self) -> bytes | None:
-        """A message of one segment, of which only the beginning was seen."""
+        """Reads a message of one segment, of which only the beginning was seen. Returns None for any other message."""
         rest, need, text = self._rest, self._report.length, self._text
         if self._out is not None or not HEAD < need <= PIECE or not text.startswith(ONE) or not rest._is_between():
             return None
@@ -163,12 +169,12 @@ class Seen(Messages):
             rest._offset += need
             del new[:]
             return piece  # type: ignore[no-any-return]
-        # What was read of it is taken by what reads all other messages.
+        # The reader for all other messages takes the bytes that were read.
         return None
 
 
 def reader(file: Any, splitter: Splitter) -> Messages:
-    """The messages of a file, read in the way that is best for it."""
+    """Returns the best reader for the messages of a file."""
     read, peek, kind = file.read, getattr(file, "peek", None), type(file)
     try:
         is_wound = callable(file.seek) and bool(file.seekable())
@@ -200,10 +206,10 @@ def reader(file: Any, splitter: Splitter) -> Messages:
     look = peek if callable(peek) else seen
     raw = file.raw if is_wound and kind is BufferedReader else file
     if is_wound and type(raw) is FileIO:
-        # A file that can be written is read, so that it gives what it has now.
+        # If a file can be written, its messages are read and not passed over, so that they have their present bytes.
         short = _BEYOND if raw is not file else 0 if file.mode == "rb" else _NEVER
         return Seen(file, from_system, look, short, splitter)
-    # Of what Python itself buffers, a look takes no longer than a read.
+    # If Python itself buffers the file, a look takes no longer than a read.
     if is_wound and (type(raw) is BytesIO or callable(peek) and (splitter._packed or kind in _BUFFERED)):
         return Seen(file, wound_back if type(raw) is BytesIO else peeked, look, _NEVER, splitter)
     if splitter._packed and kind is FileIO and S_ISFIFO(fstat(file.fileno()).st_mode):

@@ -1,4 +1,4 @@
-"""The calls that take one message in segments, as a builder has it: with no table and no copy."""
+"""The calls that take one message in segments, as a builder has it. They need no segment table and no copy."""
 from __future__ import annotations
 
 from functools import partial
@@ -26,12 +26,13 @@ from ._refusal import Refusal, failure
 from ._stop import kept, stop_of_segments
 
 _segments_type = ffi.typeof("capn_segment[]")
-# How many segments a message may have.
+# The greatest number of segments of a message.
 _MOST = 4096
 
 
 class _Laid:
-    """Segments as the library takes them. Their bytes are held as long as this is, or until the message is refused."""
+    """The segments as the library takes them. The object holds their bytes until it is gone, or until the message is
+    refused."""
 
     __slots__ = ("_data", "_given", "_held", "first", "count", "size")
 
@@ -55,7 +56,7 @@ class _Laid:
         self.size = sum(map(len, self._held))
 
     def refused(self, status: int, report: Any, bounds: Any) -> Exception:
-        """What to raise for a status that is no answer, as `refused` of one message has it."""
+        """Returns the exception for a status that isn't a result, as `refused` does for one message."""
         fault, own = failure(status, report), list(map(kept, self._data, self._given))
         try:
             if isinstance(fault, Refusal) and fault.place is not None:
@@ -73,8 +74,9 @@ class _Laid:
 
 
 def _counted(segments: Iterable[Buffer], message_words: int) -> list[Buffer]:
-    """The segments, of which nothing was copied: a refusal if they are no whole words, more than a message may have, or
-    longer. Of an iterator no more are taken than say so."""
+    """Returns the segments without copying them. Raises a refusal if a segment isn't whole words, if there are more
+    segments than a message may have, or if they have too many words. If the segments come from an iterator, stops at
+    the first segment with which there are too many."""
     count = len(segments) if isinstance(segments, Sized) else 0
     found, words = [], 0
     for segment in segments if count <= _MOST else ():
@@ -103,7 +105,7 @@ def _refused(status: int, at: int) -> Exception:
 
 
 def _told(call: Callable[..., int], laid: _Laid, limits: Limits, *out: Any) -> Any:
-    """The report of a call on segments, with what it writes into, if there is something."""
+    """Makes a call on segments, and returns its report. `out` has what the call writes into, if anything."""
     bounds, report = _laid_out(limits), _report()
     status = call(laid.first, laid.count, bounds, *out, report)
     if status != lib.CAPN_OK:
@@ -112,7 +114,7 @@ def _told(call: Callable[..., int], laid: _Laid, limits: Limits, *out: Any) -> A
 
 
 def check_segments(segments: Iterable[Buffer], limits: Limits = _USUAL, *, in_place: bool = False) -> Checked:
-    """Checks that some segments are one valid message within limits. Returns what reading it costs.
+    """Checks that some segments are one valid message within limits. Returns the cost of reading the message.
 
     Each segment has whole words, at any address; else there is a `Refusal` with the name "NotWhole". The result, or the
     error, is otherwise that of the message with the segment table of these segments. They are counted before any of
@@ -133,7 +135,8 @@ def survey_segments(segments: Iterable[Buffer], limits: Limits = _USUAL, *, in_p
 def canonical_segments(segments: Iterable[Buffer], limits: Limits = _USUAL, *, in_place: bool = False) -> bytes:
     """Returns the canonical bytes of a message in segments, at most 8 * (limits.budget + 1)."""
     laid, bounds = _Laid(segments, limits, in_place), _laid_out(limits)
-    # As long as the words that the message has: mostly enough. If it isn't, the call reports the length.
+    # The buffer is as long as the words of the message, which is enough in most cases. Otherwise the call reports the
+    # length.
     room = min(laid.size, 8 * (limits.budget + 1))
     return _filled(
         lambda *out: lib.capn_canonical_segments(laid.first, laid.count, bounds, *out), room, laid._held,

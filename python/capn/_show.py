@@ -1,4 +1,5 @@
-"""The text of a message, as `capn show` writes it: of a whole one the library's, of a part the package's own."""
+"""The text of a message, as `capn show` writes it. The library makes the text of a whole message, and this package
+makes the text of a part."""
 from __future__ import annotations
 
 from typing import Any, Iterable, Iterator
@@ -11,11 +12,12 @@ from ._message import Message, Object, Row, read
 from ._refusal import refused
 
 _JSON_ESCAPED = {ord('"'): '\\"', ord("\\"): "\\\\", 9: "\\t", 10: "\\n", 13: "\\r"}
-# Code points that nobody sees, or that turn what others see. Between quotes they are written as their numbers.
+# Code points that are invisible, or that change the direction of the text. Between quotes they are written as numbers.
 _HIDDEN = (0xAD, 0x61C, 0x180E, *range(0x200B, 0x2010), *range(0x2028, 0x202F), *range(0x2060, 0x2070), 0xFEFF,
            *range(0xFFF9, 0xFFFC), *range(0xE0000, 0xE0080))
 _ESCAPED = {**_JSON_ESCAPED, 0: "\\0", **{code: f"\\u{{{code:x}}}" for code in _HIDDEN}}
-# What is in no text in UTF-8: control characters, but tab, newline and carriage return.
+# A text in UTF-8 has none of these control characters. They are all control characters except tab, newline and carriage
+# return.
 _CONTROLS = frozenset(map(chr, (*range(0x20), *range(0x7F, 0xA0)))) - {*"\t\n\r"}
 _STYLES = {
     (False, False): lib.CAPN_STYLE_LINES,
@@ -34,7 +36,8 @@ def show(
     json: bool = False,
     at: Iterable[int] = (),
 ) -> str:
-    """Returns what `capn show` prints for one message that was read, for an object of it, or for bytes within limits.
+    """Returns what `capn show` prints for a `Message`, for an object of a message, or for bytes that are read with the
+    given limits.
 
     - With `text` a list of bytes that is a text is shown as one, as with `--text`.
     - With `json` the result is a line of JSON, as with `--json`; with both it is a line with texts.
@@ -57,7 +60,7 @@ def show(
 
 
 def _whole(message: Message | Buffer, form: Form, limits: Limits, style: int) -> str:
-    """The text of a message by the library."""
+    """Returns the text that the library makes of a message."""
     if isinstance(message, Message):
         number, given, bounds = message._whole()
         limits = Limits(bounds.message_words, bounds.budget, bounds.depth)
@@ -69,7 +72,7 @@ def _whole(message: Message | Buffer, form: Form, limits: Limits, style: int) ->
         status: int = lib.capn_show(number, given, size, bounds, style, ffi.cast("char *", out), room, report)
         return status
 
-    # Mostly enough. If it isn't, the call reports the length, but makes the text for nothing.
+    # This room is enough for most messages. Otherwise the call makes the text in vain, and reports the length.
     room = min((16 if number == lib.CAPN_PACKED else 4) * size, 4 * _most_bytes(size, number, limits),
                64 * (limits.budget + 1)) + 256
     text = _filled(call, room, (given,), lambda status, report: refused(status, report, number, message, given, bounds))
@@ -80,7 +83,7 @@ def _lines(found: Any, is_text: bool) -> Iterator[str]:
     if found is None:
         yield "none\n"
         return
-    # What is left to show at each level: an iterator of it.
+    # For each level, an iterator over the objects that are left to show.
     left: list[Iterator[Any]] = [iter((found,))]
     while left:
         one = next(left[-1], None)
@@ -117,8 +120,8 @@ def _digits(bits: Any) -> str:
 
 
 def _quoted(view: memoryview) -> str | None:
-    """What is between the quotes of a text: UTF-8 without control characters, and a zero after it; or bytes of
-    printable ASCII. None of others."""
+    """Returns the text to write between quotes for a list of bytes. The bytes are UTF-8 without control characters and
+    then a zero, or printable ASCII. Returns None for other bytes."""
     if view and all(0x20 <= byte <= 0x7E for byte in view):
         return str(view, "ascii").translate(_ESCAPED)
     text = _clear(view)
@@ -126,7 +129,8 @@ def _quoted(view: memoryview) -> str | None:
 
 
 def _clear(view: memoryview) -> str | None:
-    """The text that bytes are before a zero at their end: UTF-8 without control characters. None of others."""
+    """Returns the text of a list of bytes without its last zero. The text is UTF-8 without control characters. Returns
+    None for other bytes."""
     if not view or view[-1]:
         return None
     try:
@@ -137,7 +141,8 @@ def _clear(view: memoryview) -> str | None:
 
 
 def _text_of(view: memoryview) -> str | None:
-    """The text that bytes are in JSON: UTF-8 without control characters, and a zero after it. None of others."""
+    """Returns the text of a list of bytes as JSON has it. The bytes are UTF-8 without control characters, and then a
+    zero. Returns None for other bytes."""
     text = _clear(view)
     return None if text is None else text.translate(_JSON_ESCAPED)
 
@@ -145,7 +150,7 @@ def _text_of(view: memoryview) -> str | None:
 def _json(found: Any, is_text: bool) -> Iterator[str]:
     if found is None:
         return
-    # What is left to write at each level: an iterator of it, and what ends it.
+    # For each level, an iterator over the objects that are left to write, and the text that ends the level.
     left: list[tuple[Iterator[Any], str]] = [(iter((found,)), "")]
     between = ""
     while left:
@@ -176,7 +181,7 @@ def _json(found: Any, is_text: bool) -> Iterator[str]:
 
 
 def _inside(one: Any, kind: str) -> str:
-    """What JSON has of a list without pointers, or of a capability."""
+    """Returns the JSON text for a list without pointers, or for a capability."""
     if kind == "bits":
         return f'"{_digits(one)}"'
     if kind == "bytes":

@@ -1,4 +1,4 @@
-"""Streams of messages, from their bytes as they come."""
+"""Splits streams of messages, as their bytes come."""
 from __future__ import annotations
 
 from typing import Any, Literal
@@ -12,28 +12,29 @@ from ._refusal import Refusal, failure
 __all__ = ["FRAME_CUT", "Form", "HEAD", "LEAST", "MEMORY", "OK", "ONE", "PACKED_CUT", "PACKED_TOO_LONG", "PIECE",
            "Splitter", "busy", "group", "of_form"]
 
-# How many bytes are asked of a file at a time at most, and for how many unpacked ones there is room.
+# The greatest number of bytes that a file is asked for at once, and the room for unpacked bytes.
 PIECE = 65536
-# Bytes by which a frame may be refused, bytes that it has at least, and its first ones if it has one segment.
+# The number of bytes with which a message may be refused, the least number of bytes of a message, and the first bytes
+# of a message of one segment.
 LEAST, HEAD, ONE = 4, 8, bytes(4)
 _report_type, _look_type = ffi.typeof("capn_report *"), ffi.typeof("capn_look *")
 _unpack_some, _look_at = lib.capn_unpack_some, lib.capn_look_at
 OK, MEMORY, FRAME_CUT = lib.CAPN_OK, lib.CAPN_MEMORY, lib.CAPN_FRAME_CUT
 PACKED_CUT, PACKED_TOO_LONG = lib.CAPN_PACKED_CUT, lib.CAPN_PACKED_TOO_LONG
 Form = Literal["stream", "packed"]
-# What the messages take at most that one `feed` of packed bytes returns, unless it is one message: so much, or so many
-# times what was fed; and what a message takes besides its bytes.
+# One `feed` of packed bytes returns messages of at most _MOST bytes together, or of at most _TIMES times the bytes that
+# were fed. A single message may be longer. Besides its bytes, a message takes _BESIDE bytes.
 _MOST, _TIMES, _BESIDE = 1 << 23, 16, 56
 
 
 def busy(what: str) -> ValueError:
-    """What a call raises where another one hasn't returned: of another thread, or of the one that a signal's handler
-    interrupted."""
+    """Returns the exception for a call that comes while another call runs: in another thread, or in the call that a
+    signal handler interrupted."""
     return ValueError(f"{what} is being used by another call")
 
 
 def of_form(form: str) -> bool:
-    """Whether a form is packed."""
+    """Returns whether a form is packed."""
     if not isinstance(form, str):
         raise TypeError(f"form is a string, not {type(form).__name__}")
     if form not in ("stream", "packed"):
@@ -42,7 +43,7 @@ def of_form(form: str) -> bool:
 
 
 def group(text: bytes) -> int:
-    """How many bytes the group of a packed text has at least that begins so."""
+    """Returns the least number of bytes of a packed group that begins with these bytes."""
     if not text:
         return 1
     if text[0] == 0:
@@ -69,21 +70,22 @@ class Splitter:
     __slots__ = ("_bounds", "_packed", "_report", "_look", "_held", "_need", "_text", "_at", "_out", "_taken",
                  "_is_left", "_is_busy", "_refusal", "number", "offset")
     number: int
-    """How many messages were returned."""
+    """The number of messages that were returned."""
     offset: int
-    """Where the next one begins, in the unpacked bytes."""
+    """The place at which the next message begins, in the unpacked bytes."""
 
     def __init__(self, form: Form = "stream", limits: Limits = _USUAL) -> None:
         self._packed, self._bounds = of_form(form), _laid_out(limits)
         self._report, self._look = ffi.new(_report_type), ffi.new(_look_type)
-        # The bytes of the message that has begun, and how many say more about it.
+        # The bytes of the message that has begun, and how many bytes are needed to know more about it.
         self._held, self._need = bytearray(), LEAST
-        # The packed bytes that are held, how many of these were unpacked already, and how many came before them: those
-        # of the group that has begun, or all that follow where messages are left.
+        # The packed bytes that are held, the number of them that were unpacked already, and the number of packed bytes
+        # before them. If messages are left, all bytes after them are held. Otherwise only the bytes of the group that
+        # has begun are held.
         self._text, self._at, self._taken = b"", 0, 0
-        # Whether there may be messages that were not answered, in what is held.
+        # Whether the held bytes may have messages that were not returned.
         self._is_left = False
-        # Whether a call is being made.
+        # Whether a call runs now.
         self._is_busy = False
         self._out = _room(_room_type, PIECE) if self._packed else None
         self._refusal: Refusal | None = None
@@ -95,9 +97,9 @@ class Splitter:
 
     @property
     def wanted(self) -> int:
-        """How many bytes may be fed next so that none of them comes after the message that has begun, or, in a packed
-        stream, after the group in which it ends. It is 0 if messages are left, and after a `MemoryError`: feed nothing
-        then, to get them or to try again."""
+        """The greatest number of bytes to feed next so that none of them comes after the message that has begun. In a
+        packed stream, none of them comes after the group in which the message ends. The number is 0 if messages are
+        left, and after a `MemoryError`. Then feed nothing, to get the messages or to try again."""
         missing = max(self._need, HEAD) - len(self._held)
         if missing <= 0 or self._is_left:
             return 0
@@ -108,8 +110,8 @@ class Splitter:
 
     def feed(self, data: Buffer) -> list[bytes]:
         """Returns the messages that these bytes complete. The bytes are copied. While messages are left, feed nothing
-        until it returns none: other bytes raise a `ValueError`. An exception that comes from elsewhere, as from a
-        signal's handler, leaves the splitter unchanged: feed the same bytes again."""
+        until `feed` returns no messages: other bytes raise a `ValueError`. An exception from elsewhere, such as from a
+        signal handler, leaves the splitter unchanged. Then feed the same bytes again."""
         if self._is_busy:
             raise busy("this splitter")
         self._is_busy = True
@@ -129,10 +131,10 @@ class Splitter:
     def _fed(
         self, given: bytes, at: int = 0, words: int = 0, most: int = 0
     ) -> tuple[list[bytes], Exception | None]:
-        """Takes bytes in: the messages that they complete, or the fault where there are none; of packed bytes at most
-        so many bytes of messages, by `feed`'s measure unless it is said. Of packed bytes, and of those that were held,
-        so many were unpacked already, to so many bytes of words. An exception that comes from elsewhere leaves all as
-        it was."""
+        """Takes bytes, and returns the messages that they complete. If there are none, also returns the fault, if there
+        is one. From packed bytes, returns messages of at most `most` bytes, or of as many as `feed` allows if `most` is
+        0. Of the packed bytes, the first `at` were already unpacked to `words` bytes. An exception from elsewhere
+        changes nothing."""
         if self._refusal is not None:
             return [], self._refusal
         held, text, taken, need, status = self._held, self._text, self._taken, self._need, OK
@@ -163,7 +165,7 @@ class Splitter:
         except BaseException:
             del held[begin:]
             raise
-        # From here on nothing is called, so no signal is handled: all of it is done.
+        # The lines below make no call, so no signal is handled here: all of them run, or none.
         self.number += count
         self.offset += end
         del held[:end]
@@ -194,22 +196,23 @@ class Splitter:
             raise self._refusal
 
     def _refuse(self, status: int) -> None:
-        """Refuses the message that has begun, for good; but memory may be there later."""
+        """Refuses the message that has begun. The refusal stays, unless the library was out of memory."""
         if status == MEMORY:
             raise failure(status, self._report)
         self._refusal = self._refused(status, self.number + 1, self.offset)
 
     def _refused(self, status: int, number: int, offset: int) -> Refusal:
-        """The refusal of a message, by the last report."""
+        """Returns the refusal of a message from the last report."""
         fault = failure(status, self._report)
         if not isinstance(fault, Refusal):
             raise fault
         return fault._of_message(number, offset)
 
     def _unpack(self, text: bytes, at: int, found: list[bytes], most: int) -> tuple[int, int, int, int, bool]:
-        """Unpacks the whole groups of a text from a place on, a piece at a time, and finds the frames in each piece
-        before the next one is unpacked: where the groups and the frames end, how many bytes say more about the next
-        frame, the status of what comes there, and whether messages may be left."""
+        """Unpacks the complete groups of a text from the place `at` on, in pieces. Finds the messages in each piece
+        before the next piece is unpacked. Returns the ends of the groups and of the messages, how many bytes are needed
+        to know more about the next message, the status of the bytes that come there, and whether messages may be
+        left."""
         report, out, held = self._report, self._out, self._held
         end, need, status, more = 0, self._need, OK, PACKED_TOO_LONG
         given: Any = ffi.from_buffer("uint8_t[]", text)
@@ -230,12 +233,13 @@ class Splitter:
 
     @staticmethod
     def _cost(found: list[bytes], end: int) -> int:
-        """What messages take, which have so many bytes."""
+        """Returns the memory that messages take. `end` is the number of their bytes."""
         return end + _BESIDE * len(found)
 
     def _whole(self, found: list[bytes], at: int, need: int, most: int | None = None) -> tuple[int, int, int]:
-        """Finds the whole frames in what is held, from a place on: where they end, how many bytes say more about the
-        next one, and the status of what comes there. It ends early where those that were found take so much."""
+        """Finds the complete messages in the held bytes from the place `at` on. Returns where they end, how many bytes
+        are needed to know more about the next message, and the status of the bytes that come there. Stops early if the
+        messages take at least `most` bytes."""
         held, report, look = self._held, self._report, self._look
         status, have = OK, len(held)
         with ffi.from_buffer("uint8_t[]", held) as base:

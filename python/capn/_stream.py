@@ -29,20 +29,20 @@ __all__ = ["AsyncMessages", "AsyncOutcomes", "Digests", "Outcomes", "amessages",
 
 
 class Readable(Protocol):
-    """A binary file, as far as `messages` needs it: `read` returns no more bytes than it is asked for, none at the end,
-    and None if there are none now."""
+    """A binary file, with the method that `messages` needs. `read` returns at most as many bytes as it is asked for, no
+    bytes at the end of the file, and None if there are no bytes now."""
 
     def read(self, size: int, /) -> Any: ...
 
 
 class AsyncReadable(Protocol):
-    """The same of a reader that is awaited, as an `asyncio.StreamReader` is."""
+    """A reader whose `read` is awaited, such as an `asyncio.StreamReader`. Otherwise it is like `Readable`."""
 
     async def read(self, size: int, /) -> bytes: ...
 
 
 class _Counted(Protocol):
-    """A stream, as far as its messages are counted."""
+    """A stream that counts its messages."""
 
     @property
     def number(self) -> int: ...
@@ -54,7 +54,7 @@ _Source = TypeVar("_Source", bound=_Counted)
 
 
 def _is_packed(packed: bool | Form, form: Form | None) -> bool:
-    """Whether a stream is packed, by the two arguments that say so."""
+    """Returns whether a stream is packed, from the two arguments that can say so."""
     if isinstance(packed, str):
         said = of_form(packed)
         if form is not None and of_form(form) != said:
@@ -124,7 +124,7 @@ def messages(
         read = file.read
     found: Messages
     if read_ahead:
-        # `read` of a buffered file would wait until all are there.
+        # `read` of a buffered file would wait until all bytes are there.
         found = Ahead(read, getattr(file, "read1", read), splitter)
     else:
         found = _reader_of(file, splitter)
@@ -132,67 +132,67 @@ def messages(
 
 
 def _checked(message: bytes, limits: Limits) -> bytes:
-    """A message that is accepted."""
+    """Returns a message if it is accepted."""
     check(message, limits=limits)
     return message
 
 
 def _digest(message: bytes, limits: Limits) -> bytes:
-    """The digest of a message."""
+    """Returns the digest of a message."""
     return digest(message, limits=limits)
 
 
 class _Answers(Generic[_Source]):
-    """What a call answers of each message of a stream."""
+    """The results of a call on each message of a stream."""
 
     __slots__ = ("_messages", "_limits", "_call", "_frame", "_at", "_last", "_last_at", "_is_busy")
 
     def __init__(self, found: _Source, limits: Limits, call: Callable[[bytes, Limits], bytes]) -> None:
         self._messages, self._limits, self._call = found, limits, call
-        # The message that is next to be answered, if it was read, and where it begins.
+        # The next message, if it was read already, and the place at which it begins.
         self._frame: bytes | None = None
         self._at = 0
-        # The one that was answered last, and where it begins.
+        # The last message for which there was a result, and the place at which it begins.
         self._last: bytes | None = None
         self._last_at: int | None = None
-        # Whether a call is being made.
+        # Whether a call runs now.
         self._is_busy = False
 
     @property
     def number(self) -> int:
-        """How many messages were returned, or rejected."""
+        """The number of messages that were returned or rejected."""
         return self._messages.number - (self._frame is not None)
 
     @property
     def offset(self) -> int:
-        """Where the next one begins, in the unpacked bytes."""
+        """The place at which the next message begins, in the unpacked bytes."""
         return self._messages.offset if self._frame is None else self._at
 
     @property
     def last(self) -> bytes | None:
-        """The message that was returned last, or rejected, or None."""
+        """The message that was returned or rejected last, or None."""
         return self._last
 
     @property
     def last_offset(self) -> int | None:
-        """Where the last message began, in the unpacked bytes, or None."""
+        """The place at which the last message began, in the unpacked bytes, or None."""
         return self._last_at
 
     def _answer(self, frame: bytes) -> tuple[bytes, Refusal | None]:
-        """What the call answers of the message that is next, and its refusal if it has one."""
+        """Returns the result of the call on the next message, and the refusal if the message is rejected."""
         refused, answer = None, b""
         try:
             answer = self._call(frame, self._limits)
         except Refusal as refusal:
-            # It may be kept for long, and so may the frames of its traceback.
+            # The refusal may be kept for a long time, and would keep the frames of its traceback.
             refused = refusal._of_message(self._messages.number, self._at).with_traceback(None)
-        # An exception of a signal's handler may come until here: the message is kept till then.
+        # A signal handler may raise an exception before this line. Until then the message is kept.
         self._last, self._last_at, self._frame = frame, self._at, None
         return answer, refused
 
 
 class _Read(_Answers[Messages]):
-    """The same of a file."""
+    """The results of a call on each message of a file."""
 
     __slots__ = ()
 
@@ -211,8 +211,8 @@ class _Read(_Answers[Messages]):
 
 
 class Outcomes(_Read, Iterator[Union[bytes, Refusal]]):
-    """The messages of a stream that are valid, or digests, and in the place of each other message its `Refusal`;
-    `messages` and `digests` make it with `keep_going`."""
+    """The valid messages of a stream or their digests, with a `Refusal` in the place of each other message. `messages`
+    and `digests` make this iterator if `keep_going` is true."""
 
     __slots__ = ()
 
@@ -225,7 +225,7 @@ class Outcomes(_Read, Iterator[Union[bytes, Refusal]]):
 
 
 class Digests(_Read, Iterator[bytes]):
-    """The digests of the messages of a stream; `digests` makes it."""
+    """The digests of the messages of a stream. The function `digests` makes this iterator."""
 
     __slots__ = ()
 
@@ -273,7 +273,7 @@ def digests(
 
 
 class AsyncMessages(Places, AsyncIterator[bytes]):
-    """The messages of a stream that is awaited; `amessages` makes it.
+    """The messages of a stream whose reads are awaited. The function `amessages` makes this iterator.
 
     One call at a time may use it: while one runs, a second one raises a `ValueError`."""
 
@@ -283,13 +283,13 @@ class AsyncMessages(Places, AsyncIterator[bytes]):
         self, read: Callable[[int], Awaitable[bytes]], splitter: Splitter, is_ahead: bool = False
     ) -> None:
         self._read, self._splitter, self._is_ahead = read, splitter, is_ahead
-        # What was read, until the splitter has it.
+        # The bytes that were read, until the splitter has them.
         self._piece: bytes | None = None
-        # Messages that are whole, the last one first.
+        # The messages that are complete, the last one first.
         self._ready: list[bytes] = []
         self._number = self._offset = 0
         self._last = None
-        # Whether a call is being made.
+        # Whether a call runs now.
         self._is_busy = False
 
     async def __anext__(self) -> bytes:
@@ -323,8 +323,8 @@ class AsyncMessages(Places, AsyncIterator[bytes]):
 
 
 class AsyncOutcomes(_Answers[AsyncMessages], AsyncIterator[Union[bytes, Refusal]]):
-    """The messages of a stream that are valid, and in the place of each other message its `Refusal`; `amessages` makes
-    it with `keep_going`."""
+    """The valid messages of a stream, with a `Refusal` in the place of each other message. `amessages` makes this
+    iterator if `keep_going` is true."""
 
     __slots__ = ()
 
@@ -370,8 +370,8 @@ def amessages(
     read_ahead: bool = False,
     keep_going: bool = False,
 ) -> AsyncMessages | AsyncOutcomes:
-    """Does the same as `messages` for an `asyncio.StreamReader`, or another reader with a `read` that is awaited. It
-    takes the same arguments; limits may also come second. If a read is cancelled, nothing is lost.
+    """Does the same as `messages` for an `asyncio.StreamReader`, or another reader whose `read` is awaited. The
+    arguments are the same, but the limits may also come second. If a read is cancelled, nothing is lost.
 
     A packed stream is read group by group, which is slow: pass `read_ahead` if nothing else follows in the stream."""
     if isinstance(packed, Limits):

@@ -136,7 +136,7 @@ fn seen(name: &str) -> Option<OsString> {
     env::var_os(name).filter(|value| !value.is_empty())
 }
 
-/// What cargo says of a build.
+/// Returns a variable that cargo sets for a build.
 fn variable(name: &str) -> String {
     env::var(name).unwrap_or_default()
 }

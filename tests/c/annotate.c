@@ -5,7 +5,8 @@
 #include "wanted.h"
 
 enum { MOST = 8 };
-/* A line. Its words belong to one object. The pointer to this object is word `slot` % 256 of segment `slot` / 256. */
+/* A line that capn_annotate has to return. Its words belong to one object. The pointer to this object is word `slot` %
+ * 256 of segment `slot` / 256. */
 #define LINE(offset, segment, word, words, times, slot, cut, not_zero, kind, flags) \
     {offset, segment, word, words, times, (slot) >> 8, (slot) & 255, cut, not_zero, CAPN_LINE_##kind, flags}
 

@@ -90,9 +90,9 @@ static void answers() {
     want("unpack", capn::bytes(capn::unpack(packed)).chars() == one);
     want("packed", capn::canonical(packed, capn::form::packed) == capn::canonical(one));
     want("canonical words", capn::is_canonical_words(capn::canonical(one)) && !capn::is_canonical_words(one.substr(8)));
-    /* This message has one segment, and the last word of the segment isn't zero. If all bytes of the message are read
-     * as one segment without a segment table, they are canonical. The message itself isn't canonical, since its struct
-     * has a zero word before a pointer. */
+    /* The segment table of this message can be read as a pointer to a struct. The words of the struct are those of the
+     * segment, and the last of them isn't zero. So the bytes of the whole message are canonical words. The message
+     * itself isn't canonical, since its struct has a zero word before a pointer. */
     using capn::form;
     const capn::limits few(99, 2, 9);
     const std::string loose = framed(words({2ull << 32 | 1ull << 48, 5, 0, 1 | 0x22ull << 32, 0x636261}));
@@ -449,8 +449,8 @@ static void streams() {
 /* Tests readers whose function returns a wrong number of bytes. The reader must not report the mistake as an error of
  * the message, and must not read a byte that the function didn't write. */
 static void readers() {
-    /* On its first call, the function writes the segment table. On its second call, it returns a number that is too
-     * large, such as the -1 of a system call that failed. */
+    /* The reader calls a function for bytes. On the first call, the function writes the segment table. On the second
+     * call, the function returns a number that is too large, such as the -1 of a system call that failed. */
     const std::string all = one + one;
     for (const std::size_t wrong : {static_cast<std::size_t>(-1), std::size_t{25}, std::size_t{1} << 20}) {
         std::size_t at = 0, calls = 0;
@@ -466,8 +466,8 @@ static void readers() {
         const auto message = reader.next();
         want("nothing is lost", message && message->chars() == one && reader.next()->chars() == one && !reader.next());
     }
-    /* The pipe has only 8 bytes, and reading more fails. The function returns the result of read(2) without a test for
-     * -1. */
+    /* Reading more than 8 bytes from the pipe fails. The function of this reader returns the result of read(2) without
+     * a test for -1. */
     int ends[2];
     want("a pipe", pipe(ends) == 0 && fcntl(ends[0], F_SETFL, O_NONBLOCK) == 0 && write(ends[1], one.data(), 8) == 8);
     capn::reader forgetful([&](std::byte *to, std::size_t most) {
@@ -773,9 +773,9 @@ static void canonical_lists() {
         for (const capn::record one : list.pointers()) count += one.slot(0).is_null();
         want("nulls", count == 2);
     }
-    /* A list of structs without data words can be read as a list of the structs' pointers. Read as a list of numbers,
-     * it has only zeros. A list of structs without pointers can be read as a list of numbers. Read as a list of
-     * pointers, it has only nulls. */
+    /* A list of structs without data words can be read as a list of the structs' pointers. If it is read as a list of
+     * numbers, all numbers are zero. A list of structs without pointers can be read as a list of numbers. If it is read
+     * as a list of pointers, all pointers are null. */
     const std::string pointed = framed(words({1ull << 48, 0x1700000001, 8 | 1ull << 48, 0, 3 | 9ull << 32}));
     const capn::index index = capn::index::of(pointed);
     const capn::rows rows = index.root().as_struct().slot(0).pointers();

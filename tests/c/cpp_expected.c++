@@ -126,8 +126,8 @@ static void fields() {
     want("a capability", *root->slot(2).try_capability() == 7u && !root->slot(1).try_capability());
 }
 
-/* Reads a stream that has a rejected message. The functions that read the bytes return a capn::expected and a
- * std::optional. */
+/* Reads a stream that has a rejected message. The function that returns the bytes to a reader returns a capn::expected
+ * for the first reader, and a std::optional for the packed reader. */
 static void streams() {
     const std::string all = one + hostile + tight + cut;
     std::size_t at = 0;

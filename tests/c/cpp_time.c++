@@ -64,8 +64,8 @@ void times(const std::vector<std::uint64_t> &words) {
     const capn::bytes bare(canonical);
     beside("check", size, [&] { return capn_check(CAPN_STREAM, data, size, &limits, &report) + report.paid; },
            [&] { return capn::check(message, capn::form::stream, limits).paid; });
-    /* A vector clears its bytes before the call writes them. For large messages, clearing takes long. So the calls in C
-     * write into a vector, too. `canonical_into` clears nothing. */
+    /* A vector clears its bytes before the call writes them, which takes long for a large message. So that the times
+     * can be compared, the calls in C write into a vector, too. Only `canonical_into` clears nothing. */
     beside("canonical", size,
            [&] {
                capn_canonical(CAPN_STREAM, data, size, &limits, nullptr, 0, &report);

@@ -136,7 +136,7 @@ static void led(uint32_t form, const uint8_t *bytes, size_t size, capn_status ch
     need(!memcmp(&report, checked, sizeof report), "its report", bytes, size);
 }
 
-/* capn_annotate must report the same as capn_check. Each word of a message must be in exactly one of its lines, in
+/* capn_annotate must report the same as capn_check. The lines must have each word of the message exactly once, in
  * order. For each line, the number of words that aren't zero must be right. */
 static void lined(uint32_t form, const uint8_t *bytes, size_t size, capn_status check, const capn_report *checked) {
     capn_report report;

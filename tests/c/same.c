@@ -13,7 +13,7 @@ static unsigned long long equal, unequal, refused[2];
 struct input {
     const uint8_t *bytes;
     size_t size;
-    /* The results of capn_canonical for this input, and how often capn_check allocates. */
+    /* The results of capn_canonical for this input, and the number of allocations that capn_check makes. */
     capn_status status;
     capn_report report;
     uint8_t *canonical;

@@ -40,8 +40,8 @@ static int is_untouched(const char *out, size_t size) {
     return 1;
 }
 
-/* Returns the dump of a message, or NULL if the message is rejected. It calls capn_show with a buffer of size 0, with a
- * buffer of exactly the dump's length, and with buffers of one byte more and less. */
+/* Returns the dump of a message, or NULL if the message is rejected. Calls capn_show with a buffer of size 0, with a
+ * buffer of exactly the dump's length, and with buffers that are one byte longer and one byte shorter. */
 static char *text_of(const struct input *in, size_t *length, capn_status *status, capn_report *report) {
     *status = show(in, NULL, 0, report);
     if (*status != CAPN_NO_ROOM) {

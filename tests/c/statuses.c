@@ -50,7 +50,8 @@ static capn_report each_call(const char *what, uint32_t form, const void *bytes,
     want("which is refused", which, 0);
     is(what, capn_canonical(form, bytes, size, limits, out, 64, &report), wanted);
     is(what, capn_canonical(form, bytes, size, limits, NULL, 0, &report), wanted == CAPN_OK ? CAPN_NO_ROOM : wanted);
-    /* There is enough scratch memory for these messages, so this call succeeds even if allocations fail. */
+    /* capn_canonical_with_scratch gets enough scratch memory for the messages of this test, so it succeeds even if
+     * allocations fail. */
     uint64_t scratch[128];
     const capn_status lent = wanted == CAPN_MEMORY ? CAPN_OK : wanted;
     is(what, capn_canonical_with_scratch(form, bytes, size, limits, scratch, 128, out, 64, &report), lent);

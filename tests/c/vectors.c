@@ -94,7 +94,7 @@ static capn_status unpacked(const void *at, uint8_t *out, size_t room, capn_repo
     return capn_unpack(call->bytes, call->size, call->most, out, room, report);
 }
 
-/* Calls the library in order to do what `capn hash` does. Prints the result that `capn hash` has to have: the status,
+/* Calls the library in order to do what `capn hash` does. Prints the result that `capn hash` has to give: the status,
  * the output in hexadecimal, and the error. The output has the digests of the messages of a stream, or the digest of
  * one message that is packed or has no segment table. */
 static void hashed(const struct call *call) {

@@ -21,7 +21,7 @@ KINDS = ["pointer", "null", "pad", "tag", "data", "list", "slack", "unreached"]
 # The greatest number of bytes of a list that a line quotes.
 QUOTED = 32
 # All words of a line have the same kind, belong to the same visit, and are covered equally often. A line ends before
-# the first word that differs in one of these. Lines of the kinds in ALONE have one word.
+# the first word that differs in one of these properties. A line of a kind in ALONE has only one word.
 ALONE = ("pointer", "pad", "tag")
 
 # An object, or a landing pad: the path to the pointer that leads to it, the segment and the index of its first word,
@@ -36,10 +36,10 @@ Line = collections.namedtuple("Line", "offset place bytes times kind way text")
 
 
 class Cover:
-    """The cover of an accepted message: which visits cover which words. Words are numbered from the first segment on.
-    These lists have an item for each word. `times` says how often the word is covered. `parts` has the part that covers
-    the word first, or None. `roles` has the role of the word in this part. `overlaps` says whether another part covers
-    the word, too."""
+    """Says which objects and landing pads of an accepted message cover which words. Words are numbered from the first
+    segment on. The following lists have an item for each word. `times` says how often the word is covered. `parts` has
+    the part that covers the word first, or None. `roles` has the role of the word in this part. `overlaps` says whether
+    another part covers the word, too."""
 
     def __init__(self, segments):
         self.segments = [struct.unpack(f"<{len(one) // 8}Q", one) for one in segments]
@@ -47,7 +47,8 @@ class Cover:
         total = sum(map(len, self.segments))
         self.times, self.parts, self.roles = [0] * total, [None] * total, [None] * total
         self.overlaps, self.visits = [False] * total, 0
-        # For each word, the number of the visit to which the word belongs. Number 0 is the message itself.
+        # For each word, the number of the visit that covered the word first. A visit follows one pointer. Number 0
+        # stands for the message itself.
         self.belongs = [None] * total
         self.cover(MESSAGE, 0, 0, 0, 1, "slot")
         self.visit(0, 0, ())
@@ -88,8 +89,8 @@ class Cover:
             size = data + slots
             part = Part(way, segment, begin, ("rows", count, rows, data, slots))
             self.cover(part, visit, segment, begin, 1, "tag")
-            # The words of all structs of the list are covered before the pointers in these structs are visited. If a
-            # visit is later in preorder, it covers its words later.
+            # The words of all structs of the list are covered before the pointers in these structs are visited. The
+            # visits cover their words in preorder.
             for i in range(rows if size else 0):
                 self.cells(part, visit, begin + 1 + i * size, data, slots)
             self.cover(part, visit, segment, begin + 1 + rows * size, count - rows * size, "slack")
@@ -118,8 +119,8 @@ class Cover:
         return self.segments[part.segment][part.begin + at]
 
     def kept(self, part):
-        """Returns how many data words and how many slots a struct has in the canonical bytes. For a list of structs,
-        each struct has as many."""
+        """Returns how many data words and how many slots a struct has in the canonical bytes. All structs of a list
+        have the same numbers."""
         if part.shape[0] == "struct":
             rows, data, slots, first = 1, *part.shape[1:], 0
         else:
@@ -226,8 +227,9 @@ class Notes:
                     "" if way is None else explained.dotted(way), text)
 
     def text(self, segment, at, end, kind):
-        """Returns the text of a line, and the number that the line adds to the count `hidden`. The text lacks its two
-        endings. One is about words that canonical bytes leave out, and the other is about overlaps."""
+        """Returns the text of a line, and the number that the line adds to the count `hidden`. A line may also have two
+        endings, about words that canonical bytes leave out and about overlaps. The returned text doesn't have these
+        endings."""
         number, size = self.cover.starts[segment] + at, end - at
         word, part = self.value(number), self.cover.parts[number]
         if kind == "null":

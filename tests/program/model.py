@@ -1,4 +1,4 @@
-"""A second implementation of docs/FORMAT.md and docs/LIMITS.md, in Python. Tests compare the program with it.
+"""A second implementation of docs/FORMAT.md and docs/LIMITS.md, in Python. Tests compare the program with this model.
 
 It shares nothing with the program: a value is a tuple, a traversal is a recursion, and canonical bytes are one list. It
 is slow, and it isn't proved. `run_COMMAND` does the work of a command, and has the options of the command as
@@ -25,7 +25,7 @@ def number(data, at, size):
     return int.from_bytes(data[at:at + size], "little")
 
 
-# This section reads and writes segment tables and packed bytes.
+# The functions below read and write segment tables and packed bytes.
 
 
 def first_frame(data, at, most):
@@ -510,7 +510,7 @@ def styled(value, style):
     return ("none\n" if value is None else shown(value, 0, style == "text")) + "end\n"
 
 
-# This section has the commands that write a result for each message of a stream.
+# The functions below are the commands that write a result for each message of a stream.
 
 
 def each(data, text_of, form="stream", message_words=8388608, one=False, **limits):
@@ -572,7 +572,7 @@ def is_own(walk, segments):
     return walk.capability is None and len(segments) == 1 and canonical(walk.value) == segments[0]
 
 
-# This section has the commands that take a stream of any length.
+# The functions below are the commands that take a stream of any length.
 
 
 def messages(data, form, most):
@@ -771,7 +771,7 @@ def run_pick(data, to=2**64 - 1, only=None, **options):
     return pick_only(data, [(int(low), int(high or low)) for low, _, high in ranges], **options)
 
 
-# This section has the commands that read their whole input first.
+# The functions below are the commands that read their whole input before they write.
 
 
 def only_message(data, form, message_words):
@@ -818,7 +818,7 @@ def run_unpack(data, message_words=8388608, streaming=False):
     return (words, "", 0) if cut_at is None else (b"", f"capn: packed: Cut at {cut_at}\n", 1)
 
 
-# This section packs and unpacks in chunks.
+# The functions below pack and unpack in chunks.
 
 
 def pack_streaming(data):

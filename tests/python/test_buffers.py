@@ -1,5 +1,5 @@
-"""Tests how calls use the caller's buffers. An exception keeps no buffer. Also tests how much memory a call uses, and
-in which order a call examines its arguments."""
+"""Tests how calls use the caller's buffers, and that an exception keeps no buffer. Also tests how much memory a call
+uses, and in which order a call examines its arguments."""
 import ctypes
 import gc
 import mmap
@@ -171,7 +171,7 @@ def long():
 
 
 def shown(data, form, limits):
-    """Calls `capn.show`. A patch makes it read the bytes in place. Without this patch, `capn.show` copies the bytes."""
+    """Calls `capn.show` with a patch. With the patch, `capn.show` reads the bytes in place instead of copying them."""
     with unittest.mock.patch.object(capn._show, "_taken", lambda data, form, limits, _: capn._calls._taken(
             data, form, limits, True)):
         return capn.show(data, form, limits)

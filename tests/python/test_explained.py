@@ -157,8 +157,8 @@ class AsExplained(unittest.TestCase):
                     self.assertEqual(stop_of(refusal), stop_of(refused))
                     ways.add(refusal.way)
                     if refused.name == "TooManyWords":
-                        # If the segments come from an iterator, a call stops at the segment with which the words exceed
-                        # the limit. So it may report fewer words than all segments have.
+                        # If the segments come from an iterator, a call stops at the first segment with which the number
+                        # of words exceeds the limit. So it may report fewer words than all segments have.
                         self.assertEqual(of_iterator.name, refused.name)
                         self.assertTrue(limits.message_words < of_iterator.at <= refused.at)
                     else:

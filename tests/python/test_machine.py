@@ -43,7 +43,7 @@ resource.setrlimit(resource.RLIMIT_AS, (resource.RLIM_INFINITY, resource.RLIM_IN
 print(refusal.way, refusal.byte)
 """
 
-# Reads the text that docs/DIAGNOSTICS.md has for the error out of memory.
+# Reads the text of the error `out of memory` in docs/DIAGNOSTICS.md.
 PAGE = Path(__file__).resolve().parents[2] / "docs" / "DIAGNOSTICS.md"
 TEXT = re.search(r"^\| `([^`]+)` \| (?:memory was refused|(?:an|the) allocation failed|out of memory)\b",
                  PAGE.read_text(encoding="utf-8"), re.M)[1]

@@ -164,7 +164,7 @@ class Page(unittest.TestCase):
         self.assertEqual(self.run_on(b"", stream), (0, ""))
         self.assertEqual(self.run_on(MESSAGE + MESSAGE[:-8], stream),
                          (1, f"{figures}\nrejected: message 2 at 32: frame: Cut\n"))
-        # The error comes from the call `capn.survey` in the loop. So it doesn't have the number of the message.
+        # The error comes from the call `capn.survey` in the loop. So the error doesn't have the number of the message.
         self.assertEqual(self.run_on(MESSAGE + WRONG, stream),
                          (1, f"{figures}\nrejected: Range at 0:0, paid 0, visits 1\n"))
 

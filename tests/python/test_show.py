@@ -54,7 +54,7 @@ class Shown(unittest.TestCase):
             found = RUN.fullmatch(case)
             words = found[1].split() if found else []
             # The last word of a stored test case of `show` is the message. Cases with offsets or paths are left out,
-            # since only the program has them.
+            # since only the program prints offsets and paths.
             if not found or not answer.startswith("status ") or answer.startswith("status 2"):
                 continue
             if {"--offsets", "--ways"} & set(words):

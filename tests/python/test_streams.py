@@ -79,8 +79,8 @@ class Peeking(Blocking):
 
 
 class AsSoonAsItIsThere(unittest.TestCase):
-    """Tests readers whose sender waits for a reply before it sends more. Each message has to be returned as soon as it
-    is complete."""
+    """Tests readers of streams whose sender waits for a reply before it sends more. Each message has to be returned as
+    soon as it is complete."""
 
     def test_a_socket(self):
         for buffering in -1, 0:

@@ -1,5 +1,5 @@
-"""Tests three attributes of results: the place of an error, the parts of a message that a `Refusal` keeps, and the
-first difference from the canonical form."""
+"""Tests the place that an error reports, the parts of a message that a `Refusal` keeps, and the first difference of a
+message from its canonical form."""
 import copy
 import dataclasses
 import gc

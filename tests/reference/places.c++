@@ -1,5 +1,5 @@
 // Writes where the reference implementation finds the objects of each message of a stream. There is a line for each
-// pointer, in preorder. It has the offset of the object from the beginning of the message's segment table. For a
+// pointer, in preorder. A line has the offset of the object from the beginning of the message's segment table. For a
 // message that the implementation rejects, there is only one line. The program reads standard input.
 
 #include <capnp/any.h>

@@ -27,7 +27,7 @@ pub const CAPN_USUAL_LIMITS: capn_limits = capn_limits {
     // c/limits.txt ends
 };
 
-/// How the bytes of a message are written.
+/// The form in which the bytes of a message are written.
 pub type capn_form = u32;
 /// A segment table, then the segments.
 pub const CAPN_STREAM: capn_form = 0;
@@ -43,7 +43,7 @@ pub const CAPN_STRICT: capn_tariff = 0;
 /// Each struct and list costs its size.
 pub const CAPN_PLAIN: capn_tariff = 1;
 
-/// How the text of a message is written.
+/// The style in which the text of a message is written.
 pub type capn_style = u32;
 /// Lines, as `capn show` writes them.
 pub const CAPN_STYLE_LINES: capn_style = 0;
@@ -54,7 +54,7 @@ pub const CAPN_STYLE_JSON: capn_style = 2;
 /// A line of JSON with texts in UTF-8, as `capn show --json --text` writes it.
 pub const CAPN_STYLE_JSON_TEXT: capn_style = 3;
 
-/// What a pointer refers to: the `kind` of a [`capn_entry`](crate::capn_entry).
+/// The kind of the object that a pointer refers to: the `kind` of a [`capn_entry`](crate::capn_entry).
 pub type capn_kind = u32;
 /// A null pointer.
 pub const CAPN_KIND_NULL: capn_kind = 0;
@@ -79,7 +79,7 @@ pub const CAPN_KIND_ROWS: capn_kind = 9;
 /// A capability, whose index is `count`.
 pub const CAPN_KIND_CAPABILITY: capn_kind = 10;
 
-/// How a message differs from its canonical form: the `kind` of a [`capn_departed`](crate::capn_departed).
+/// The way in which a message differs from its canonical form: the `kind` of a [`capn_departed`](crate::capn_departed).
 pub type capn_departure_kind = u32;
 /// It is canonical.
 pub const CAPN_DEPARTS_NOT: capn_departure_kind = 0;
@@ -92,7 +92,7 @@ pub const CAPN_DEPARTS_WORD: capn_departure_kind = 3;
 /// The canonical bytes end before the word `word`, which is `is`.
 pub const CAPN_DEPARTS_AFTER: capn_departure_kind = 4;
 
-/// What a word of canonical bytes is part of: the `owner` of a [`capn_departed`](crate::capn_departed).
+/// The part of canonical bytes that a word belongs to: the `owner` of a [`capn_departed`](crate::capn_departed).
 pub type capn_owner = u32;
 /// The kind is not [`CAPN_DEPARTS_WORD`].
 pub const CAPN_OWNER_NONE: capn_owner = 0;
@@ -103,7 +103,7 @@ pub const CAPN_OWNER_TAG: capn_owner = 2;
 /// The last word of the list of bits, bytes or numbers that this pointer refers to.
 pub const CAPN_OWNER_LAST_WORD: capn_owner = 3;
 
-/// What the words of a line are: the `kind` of a [`capn_line`](crate::capn_line).
+/// The kind of the words of a line: the `kind` of a [`capn_line`](crate::capn_line).
 pub type capn_line_kind = u32;
 /// A pointer that isn't null.
 pub const CAPN_LINE_POINTER: capn_line_kind = 0;
@@ -129,7 +129,7 @@ pub const CAPN_LINE_OVERLAP: capn_line_flag = 1;
 /// The line has the last word of a list, whose padding isn't zero.
 pub const CAPN_LINE_PADDING: capn_line_flag = 2;
 
-/// What a call returns. Numbers from 16 to 127 say why an input is rejected.
+/// The status that a call returns. Numbers from 16 to 127 say why an input is rejected.
 pub type capn_status = u32;
 pub const CAPN_OK: capn_status = 0;
 pub const CAPN_NO_ROOM: capn_status = 1;

@@ -12,7 +12,7 @@ pub use constants::*;
 /// `char` of C, as it is on x86-64.
 pub type c_char = i8;
 
-/// What a call accepts.
+/// The limits of what a call accepts.
 #[repr(C)]
 #[derive(Clone, Copy, Debug, PartialEq, Eq)]
 pub struct capn_limits {
@@ -24,7 +24,7 @@ pub struct capn_limits {
     // c/limits.txt ends
 }
 
-/// What a call reports beside its status.
+/// The numbers that a call reports beside its status.
 #[repr(C)]
 #[derive(Clone, Copy, Debug, Default, PartialEq, Eq)]
 pub struct capn_report {
@@ -36,7 +36,7 @@ pub struct capn_report {
     pub word: u32,
 }
 
-/// What `capn_survey` reports of a message.
+/// The statistics of a message that `capn_survey` reports.
 #[repr(C)]
 #[derive(Clone, Copy, Debug, Default, PartialEq, Eq)]
 pub struct capn_figures {

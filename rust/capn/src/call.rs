@@ -471,7 +471,7 @@ pub(crate) fn survey_segments(segments: &[&[u8]], limits: &Limits) -> Result<cap
     Ok(figures)
 }
 
-/// What a status means.
+/// Returns the meaning of a status.
 pub(crate) fn status_text(status: capn_status) -> &'static str {
     // The text is a constant of the library, and a zero byte ends it.
     let text: *const u8 = unsafe { capn_sys::capn_status_text(status) }.cast();

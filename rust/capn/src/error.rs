@@ -40,9 +40,9 @@ pub enum Error {
     },
     /// A pointer of a valid message refers to something else than the caller expects.
     Unexpected {
-        /// What the caller expects, such as `text`.
+        /// The word for the object that the caller expects, such as `text`.
         wanted: &'static str,
-        /// What is there, such as `rows`.
+        /// The word for the object that is there, such as `rows`.
         found: &'static str,
     },
 }
@@ -55,7 +55,7 @@ pub enum Place {
     Nowhere,
     /// An offset, a count or an index, as the kind says.
     At(u64),
-    /// How many bytes [`pack`](crate::pack) was passed.
+    /// The number of bytes that were passed to [`pack`](crate::pack).
     Words(u64),
     /// The pointer at which the check of a message stopped.
     Slot {
@@ -65,7 +65,7 @@ pub enum Place {
         word: u32,
         /// The cost of the objects before it, in words.
         paid: u32,
-        /// How many pointers were followed, with this one.
+        /// The number of pointers that were followed, including this one.
         visits: u32,
     },
 }
@@ -105,7 +105,7 @@ macro_rules! kinds {
                 }
             }
 
-            /// What it means, in a few words.
+            /// The meaning of the kind, in a few words.
             ///
             /// ```
             /// assert_eq!(capn::Kind::Range.meaning(), "an object lies outside of its segment");

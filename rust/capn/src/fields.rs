@@ -138,7 +138,7 @@ impl<'m, 'i> Struct<'m, 'i> {
         self.data
     }
 
-    /// How many pointers it has.
+    /// The number of pointers of the struct.
     pub fn slots(&self) -> u32 {
         self.slots
     }
@@ -214,7 +214,7 @@ pub struct Pointers<'m, 'i>(pub(crate) Items<'m, 'i>);
 macro_rules! iterator {
     ($name:ident, $item:ty, $of:expr) => {
         impl $name<'_, '_> {
-            /// How many elements are left.
+            /// The number of elements that are left.
             pub fn len(&self) -> usize {
                 self.0.count as usize
             }
@@ -292,7 +292,7 @@ impl<'m, T: Number> Numbers<'m, T> {
         Numbers::new(items.data, items.count, items.step(), items.width)
     }
 
-    /// The same list as one of other numbers of this width.
+    /// Returns this list as a list of another type of numbers with the same width.
     pub(crate) fn cast<U>(&self) -> Numbers<'m, U> {
         Numbers {
             data: self.data,
@@ -316,7 +316,7 @@ impl<'m, T: Number> Numbers<'m, T> {
         )
     }
 
-    /// How many numbers are left.
+    /// The number of numbers that are left.
     pub fn len(&self) -> usize {
         (self.end - self.at) as usize
     }

@@ -80,7 +80,7 @@ impl<'m> Index<'m> {
         self.message
     }
 
-    /// How many pointers the message has, the root included.
+    /// The number of pointers of the message, including the root pointer.
     pub fn slots(&self) -> usize {
         self.entries.len()
     }

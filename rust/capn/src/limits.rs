@@ -1,7 +1,7 @@
 //! Forms, styles, counting rules and limits.
 use core::fmt;
 
-/// How the bytes of a message are written.
+/// The form in which the bytes of a message are written.
 #[derive(Clone, Copy, Debug, Default, PartialEq, Eq, Hash)]
 pub enum Form {
     /// A segment table, then the segments.
@@ -13,17 +13,17 @@ pub enum Form {
     Bare,
 }
 
-/// How the text of a message is written.
+/// The style in which the text of a message is written.
 #[derive(Clone, Copy, Debug, Default, PartialEq, Eq, Hash)]
 pub enum Style {
     /// Lines, with the digits of each list of bytes, as `capn show` writes it.
     #[default]
     Lines,
-    /// The same, but a list of bytes that is a text stands between quotes, as `capn show --text` writes it.
+    /// Lines in which a list of bytes that is a text stands between quotes, as `capn show --text` writes them.
     Text,
     /// One line of JSON, as `capn show --json` writes it.
     Json,
-    /// The same, but a text in UTF-8 with its zero is a text, as `capn show --json --text` writes it.
+    /// One line of JSON in which a text in UTF-8 with its zero is a string, as `capn show --json --text` writes it.
     JsonText,
 }
 
@@ -37,7 +37,7 @@ pub enum Tariff {
     Plain,
 }
 
-/// What a call accepts. The cost of reading is in words of 8 bytes, and the root object has depth 1.
+/// The limits of what a call accepts. The cost of reading is in words of 8 bytes, and the root object has depth 1.
 ///
 /// ```
 /// let limits = capn::Limits { depth: 32, ..capn::Limits::default() };
@@ -118,8 +118,8 @@ impl Limits {
         None
     }
 
-    /// How many bytes canonical bytes begin with room for: mostly they are not longer than the message, and never
-    /// longer than the traversal limit allows.
+    /// Returns the number of bytes for which a buffer for canonical bytes has room at first. In most cases, the
+    /// canonical bytes aren't longer than the message. They are never longer than the traversal limit allows.
     pub(crate) fn most_bytes(&self, size: usize) -> usize {
         size.min(8 * (self.budget as usize + 1))
     }

@@ -11,7 +11,7 @@ use capn_sys::{
 use crate::call;
 use crate::{Error, Form, Limits};
 
-/// What the words of a [`Line`] are. Its text is the word that `capn annotate` prints.
+/// The kind of the words of a [`Line`]. Its text is the word that `capn annotate` prints.
 #[non_exhaustive]
 #[derive(Clone, Copy, Debug, PartialEq, Eq, Hash)]
 pub enum LineKind {
@@ -58,18 +58,18 @@ pub struct Line {
     pub segment: u32,
     /// The number of the first word in that segment.
     pub word: u32,
-    /// How many words there are, 1 or more.
+    /// The number of words, 1 or more.
     pub words: u32,
-    /// How often objects and landing pads cover each of the words; 0 for [`LineKind::Unreached`].
+    /// The number of times that objects and landing pads cover each of the words; 0 for [`LineKind::Unreached`].
     pub times: u32,
     /// The pointer to the object or landing pad that has the words: its segment, and its word in that segment. `None`
     /// for the root pointer, and for [`LineKind::Unreached`].
     pub slot: Option<(u32, u32)>,
-    /// How many of the words canonical bytes leave out.
+    /// The number of words that canonical bytes leave out.
     pub cut: u32,
-    /// How many of the words aren't zero.
+    /// The number of words that aren't zero.
     pub not_zero: u32,
-    /// What the words are.
+    /// The kind of the words.
     pub kind: LineKind,
     /// Whether different objects or landing pads overlap in the words.
     pub overlap: bool,

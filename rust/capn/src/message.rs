@@ -5,12 +5,12 @@ use alloc::vec::Vec;
 use crate::call;
 use crate::{Error, Form, Limits, Style};
 
-/// What reading a message costs.
+/// The cost of reading a message.
 #[derive(Clone, Copy, Debug, PartialEq, Eq, Hash)]
 pub struct Checked {
     /// The cost in words of 8 bytes.
     pub paid: u32,
-    /// How many pointers are followed, null pointers included.
+    /// The number of pointers that are followed, including null pointers.
     pub visits: u32,
 }
 
@@ -24,7 +24,7 @@ pub struct Figures {
     pub segments: u32,
     /// The cost of reading it, in words of 8 bytes.
     pub paid: u32,
-    /// How many pointers are followed, null pointers included.
+    /// The number of pointers that are followed, including null pointers.
     pub visits: u32,
     /// The depth of its deepest object: 0 for a null root, and 1 if only the root object is there.
     pub depth: u32,

@@ -28,16 +28,16 @@ pub struct Unpacker<R> {
     packed: Vec<u8>,
     /// Where the one that has begun begins.
     begun: usize,
-    /// How many words the complete groups have.
+    /// The number of words of the complete groups.
     words: usize,
-    /// What is unpacked, of which the bytes up to `given` were asked for.
+    /// The unpacked bytes. The bytes up to `given` were already returned.
     unpacked: Vec<u8>,
     given: usize,
-    /// How many packed bytes were unpacked.
+    /// The number of packed bytes that were unpacked.
     taken: u64,
 }
 
-/// How many words are unpacked at once.
+/// The greatest number of words that are unpacked at once.
 const MOST_WORDS: usize = 4096;
 
 impl<R> Unpacker<R> {
@@ -84,7 +84,7 @@ impl<R: Read> Unpacker<R> {
             match came {
                 Err(why) if why.kind() == io::ErrorKind::Interrupted => {}
                 Err(why) => return Err(why),
-                // What came before is returned first.
+                // The words that came before are returned first.
                 Ok(0) if self.words > 0 || have == self.begun => break,
                 Ok(0) => {
                     let cut = Error::packed_cut(self.taken + self.begun as u64);
@@ -151,7 +151,7 @@ fn reserve(bytes: &mut Vec<u8>, more: usize) -> io::Result<()> {
     reserved.map_err(|_| io::Error::new(io::ErrorKind::OutOfMemory, Error::Memory))
 }
 
-/// How many bytes a group has at least that begins so.
+/// Returns the least number of bytes of a group that begins with these bytes.
 fn group_size(packed: &[u8]) -> usize {
     match packed {
         [] => 1,
@@ -161,7 +161,7 @@ fn group_size(packed: &[u8]) -> usize {
     }
 }
 
-/// How many words a complete group has.
+/// Returns the number of words of a complete group.
 fn group_words(packed: &[u8]) -> usize {
     match packed[0] {
         0 => 1 + usize::from(packed[1]),

@@ -72,7 +72,7 @@ pub fn refusal_way(message: &[u8], form: Form, limits: &Limits) -> Result<Option
 pub enum Departure {
     /// It has several segments.
     Segments {
-        /// How many there are.
+        /// The number of segments.
         count: u32,
     },
     /// Its value has a capability.
@@ -90,7 +90,7 @@ pub enum Departure {
         word: u64,
         /// The word in the canonical bytes.
         canonical: u64,
-        /// What the word is part of.
+        /// The part of the canonical bytes that the word belongs to.
         owner: Owner,
         /// The path to the pointer that `owner` speaks of.
         way: Way,
@@ -104,7 +104,7 @@ pub enum Departure {
     },
 }
 
-/// What a word of canonical bytes is part of, by the path to a pointer.
+/// The part of canonical bytes that a word belongs to. A path leads to the pointer that is meant.
 #[non_exhaustive]
 #[derive(Clone, Copy, Debug, PartialEq, Eq, Hash)]
 pub enum Owner {

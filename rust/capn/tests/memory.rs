@@ -11,7 +11,7 @@ struct Counting;
 struct Counts {
     /// The largest requested block.
     largest: usize,
-    /// How many bytes `realloc` copied, and how often it was called.
+    /// The number of bytes that `realloc` copied, and the number of its calls.
     copied: usize,
     reallocs: usize,
 }
@@ -113,7 +113,7 @@ fn many_answers_are_appended_in_linear_time() {
     }
 }
 
-/// The same buffer takes messages that are each a little longer than the message before. It must not grow at each
+/// One buffer takes messages that are each a little longer than the message before. The buffer must not grow at each
 /// message.
 #[test]
 fn a_buffer_that_is_cleared_grows_by_a_factor() {
