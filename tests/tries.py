@@ -71,8 +71,8 @@ def modules_of_calls(crate):
 
 
 def crates_of_calls(crate):
-    """Yields each call of a crate that has test cases, with the crates on which the answer to the call depends. The
-    modules of the call name these crates."""
+    """Yields each call that has test cases in the given crate, and the crates that the modules of this call import. The
+    answer to the call depends on the imported crates."""
     for word, used in modules_of_calls(crate).items():
         texts = [text_of("crates", crate, "src", f"{one}.rt") for one in used]
         yield word, {name for text in texts for name in re.findall(r"^use (capn_\w+)", text, re.M)}
