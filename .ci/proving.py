@@ -15,7 +15,8 @@ BUILD = os.path.join(TOP, "build")
 # The crate of the library for C, and the log of its build. `rt ci` proves the crate, but doesn't build its archive.
 LIBRARY = "capn_c"
 LIBRARY_LOG = os.path.join(BUILD, "library.log")
-# The crates that only `make test-all` proves. They have no tests, and `make test` runs them without proving them.
+# The crates that only `make test-all` proves. They are programs without tests of their own, and `make test` runs these
+# programs without proving them.
 UNPROVED = ("bench",)
 
 

@@ -49,7 +49,7 @@ static capn_status surveyed(const input *in, uint8_t *out, size_t room, capn_rep
     return capn_survey(in->form, bytes, in->size, &in->limits, (capn_figures *)(void *)out, report);
 }
 
-/* Makes a call with memory, and then while every allocation fails. Compares the two results. */
+/* Makes a call twice: once normally, and once while every allocation fails. Compares the two results. */
 static void twice(const char *name, call *make, const input *in, size_t room) {
     capn_report with, without;
     memset(ample, 0xAA, room < 4096 ? 4096 : room);
