@@ -18,7 +18,7 @@ import (
 
 // These tests read the fields of tests/c/fields.capnp with its older or its newer type. They read messages of other
 // schemas without a schema. CAPN_FIELDS names a folder with the messages that the reference implementation's generated
-// code wrote, and with what this code read. CAPN_MIXED names a file with messages of tests/c/mixed.py. CAPN_LINES names
+// code wrote, and with what this code read. CAPN_MIXED names a file with messages of generated.py. CAPN_LINES names
 // the file into which the tests write the lines of these messages.
 
 // reading reads fields, and stops at the first field that isn't as the schema says.
@@ -347,7 +347,7 @@ func writeLines(out *bytes.Buffer, v Value) {
 	eachBelow(v, func(below Value) { writeLines(out, below) })
 }
 
-// Before each message of mixed.py stands its length.
+// Before each message of `generated.py mixed` stands its length.
 func TestLinesOfMixed(t *testing.T) {
 	mixed, to := os.Getenv("CAPN_MIXED"), os.Getenv("CAPN_LINES")
 	if mixed == "" || to == "" {

@@ -16,7 +16,7 @@ import (
 
 func packedMessages(t *testing.T, source *rand.Rand) (messages, texts [][]byte) {
 	for n := source.Intn(5); n > 0; n-- {
-		segments := hostileWords(source)
+		segments := randomSegments(source)
 		switch source.Intn(10) {
 		case 0:
 			segments = append(segments, make([]uint64, 5000))

@@ -30,7 +30,7 @@ func TestMessages(t *testing.T) {
 		var stream []byte
 		var messages [][]byte
 		for n := source.Intn(5); n > 0; n-- {
-			message, err := framed(bytesOf(hostileWords(source)))
+			message, err := framed(bytesOf(randomSegments(source)))
 			if err != nil {
 				t.Fatal(err)
 			}

@@ -8,9 +8,7 @@ import (
 	"errors"
 	"fmt"
 	"io"
-	"math/rand"
 	"os"
-	"os/exec"
 	"regexp"
 	"strconv"
 	"strings"
@@ -174,61 +172,29 @@ func TestStored(t *testing.T) {
 	}
 }
 
-// For ten thousand generated messages, many of them hostile, each call returns what the library returns in C.
-// CAPN_VECTORS names the program tests/c/vectors.c.
-func TestGenerated(t *testing.T) {
-	program := os.Getenv("CAPN_VECTORS")
-	if program == "" {
-		t.Skip("no program in C, which CAPN_VECTORS names")
+// generatedCalls returns the lines of the file that a variable names. go/test writes this file. A line has a call on a
+// message of tests/program/generated.py, a vertical bar, and the answer of a program in C.
+func generatedCalls(t *testing.T, variable string) []string {
+	name := os.Getenv(variable)
+	if name == "" {
+		t.Skip(variable + " names no answers of C")
 	}
-	source := rand.New(rand.NewSource(65))
-	var lines []string
-	for i := 0; i < 10000; i++ {
-		segments := hostileWords(source)
-		if source.Intn(10) < 4 {
-			segments = segmentsOf(source, randomItem(source, 0), 1+source.Intn(4))
-		}
-		data, err := framed(bytesOf(segments))
-		if err != nil {
-			t.Fatal(err)
-		}
-		form := [...]string{"stream", "stream", "packed", "bare"}[source.Intn(4)]
-		if source.Intn(10) == 0 {
-			data = data[:source.Intn(len(data)+1)]
-		}
-		switch {
-		case form == "packed":
-			if whole, err := Pack(data[:len(data)/8*8]); err == nil {
-				data = whole
-			}
-		case form == "bare" && len(data) >= 8:
-			data = data[8:]
-		}
-		limits := [...]string{"8388608 8388608 64", "8388608 8388608 64", "6 8388608 64", "8388608 9 3"}[source.Intn(4)]
-		tariff := [...]string{"", "", "plain "}[source.Intn(3)]
-		lines = append(lines, fmt.Sprintf("%scanonicalise %s %s %s", tariff, form, limits, digits(data)),
-			fmt.Sprintf("%ssurvey %s %s %s", tariff, form, limits, digits(data)),
-			fmt.Sprintf("run 3 hash --form stream %s", digits(data)),
-			fmt.Sprintf("pack %s", digits(data)), fmt.Sprintf("unpack 9 %s", digits(data)))
-		if form == "bare" {
-			lines = append(lines, fmt.Sprintf("%sis_canonical %s %s", tariff, limits, digits(data)))
-		}
-	}
-	ran := exec.Command(program)
-	ran.Stdin = strings.NewReader(strings.Join(lines, "\n") + "\n")
-	wrote, err := ran.Output()
+	data, err := os.ReadFile(name)
 	if err != nil {
 		t.Fatal(err)
 	}
-	answers, accepted := strings.Split(strings.TrimSuffix(string(wrote), "\n"), "\n"), 0
-	if len(answers) != len(lines) {
-		t.Fatalf("%d answers to %d calls", len(answers), len(lines))
-	}
-	for i, line := range lines {
-		if got := answer(line); got != answers[i] {
-			t.Fatalf("%s: %s, not %s", line, got, answers[i])
+	return strings.Split(strings.TrimSuffix(string(data), "\n"), "\n")
+}
+
+// For ten thousand generated messages, many of them hostile, each call returns what the library returns in C.
+func TestGenerated(t *testing.T) {
+	lines, accepted := generatedCalls(t, "CAPN_GENERATED"), 0
+	for _, line := range lines {
+		call, want, _ := strings.Cut(line, "|")
+		if got := answer(call); got != want {
+			t.Fatalf("%s: %s, not %s", call, got, want)
 		}
-		if strings.HasPrefix(answers[i], "paid") {
+		if strings.HasPrefix(want, "paid") {
 			accepted++
 		}
 	}

@@ -8,9 +8,6 @@ import (
 	"encoding/hex"
 	"errors"
 	"fmt"
-	"math/rand"
-	"os"
-	"os/exec"
 	"strconv"
 	"strings"
 	"testing"
@@ -267,53 +264,26 @@ func TestStoredWays(t *testing.T) {
 	}
 }
 
-// The paths and the first differences of generated messages must be those that C returns. CAPN_WAYS names the program
-// tests/c/ways.c.
+// The paths and the first differences of ten thousand generated messages must be those that C returns.
 func TestGeneratedWays(t *testing.T) {
-	program := os.Getenv("CAPN_WAYS")
-	if program == "" {
-		t.Skip("no program in C, which CAPN_WAYS names")
-	}
-	source := rand.New(rand.NewSource(82))
-	var lines, told []string
 	kinds := map[string]int{}
-	for i := 0; i < 10000; i++ {
-		segments := hostileWords(source)
-		if source.Intn(10) < 6 {
-			segments = segmentsOf(source, randomItem(source, 0), 1+source.Intn(2))
-			if of := segments[source.Intn(len(segments))]; source.Intn(2) == 0 {
-				of[source.Intn(len(of))] ^= 1 << source.Intn(64)
-			}
+	for _, line := range generatedCalls(t, "CAPN_WAYS") {
+		call, want, _ := strings.Cut(line, "|")
+		var form, digits string
+		limits, survey := UsualLimits(), strings.TrimPrefix(call, "plain ")
+		if survey != call {
+			limits.Tariff = Plain
 		}
-		message, err := framed(bytesOf(segments))
-		if err != nil {
-			t.Fatal(err)
+		if _, err := fmt.Sscanf(survey, "survey %s %d %d %d %s", &form, &limits.MessageWords, &limits.Budget, &limits.Depth,
+			&digits); err != nil {
+			t.Fatal(call, err)
 		}
-		form, name := Stream, "stream"
-		switch source.Intn(4) {
-		case 0:
-			form, name, message = Packed, "packed", packed(t, message)
-		case 1:
-			form, name, message = Bare, "bare", bytesOf(segments)[0]
+		message := bytesOfHex(t, strings.TrimPrefix(digits, "-"))
+		kind, got := wayOrDeparture(t, message, forms[form], &limits)
+		if got != want {
+			t.Fatalf("%s: %s, not %s", call, got, want)
 		}
-		depth := [...]uint32{64, 64, 2, 256}[source.Intn(4)]
-		lines = append(lines, fmt.Sprintf("survey %s 8388608 8388608 %d %s", name, depth, digits(message)))
-		limits := UsualLimits()
-		limits.Depth = depth
-		kind, text := wayOrDeparture(t, message, form, &limits)
 		kinds[kind]++
-		told = append(told, text)
-	}
-	ran := exec.Command(program, "answers")
-	ran.Stdin = strings.NewReader(strings.Join(lines, "\n") + "\n")
-	wrote, err := ran.Output()
-	if err != nil {
-		t.Fatal(err)
-	}
-	for i, want := range strings.Split(strings.TrimSuffix(string(wrote), "\n"), "\n") {
-		if told[i] != want {
-			t.Fatalf("%s: %s, not %s", lines[i], told[i], want)
-		}
 	}
 	for _, kind := range []string{"way", "yes", "segments", "word", "after"} {
 		if kinds[kind] < 20 {

@@ -1,7 +1,7 @@
 // Reads the fields of fields.capnp with capn.hpp.
 //
 //     cpp_fields old | new   shows each message of a stream as fields.c++ shows it, read by one of its types
-//     cpp_fields lines       reads each pointer of each message of mixed.py as anything, with a line as fields.c has it
+//     cpp_fields lines       reads each pointer of the messages of generated.py, with a line as fields.c has it
 #include "capn.hpp"
 #include <cinttypes>
 #include <cstdio>
@@ -184,8 +184,8 @@ void show_lines(capn::value at) {
         }
 }
 
-// Prints a line for each pointer of the messages that mixed.py wrote. Each message comes after its length. The message
-// is copied to memory of exactly its length, so that a sanitizer detects a read past the end.
+// Prints a line for each pointer of the messages that generated.py wrote. Each message comes after its length. The
+// message is copied to memory of exactly its length, so that a sanitizer detects a read past the end.
 void show_mixed(const std::string &all) {
     for (std::size_t from = 0; from + 4 <= all.size();) {
         std::uint32_t size;

@@ -4,7 +4,7 @@
  *     messages as the older and as the newer type of the schema
  *   - `fields any` reads each pointer of each message of a stream as every kind of object, and counts the readings that
  *     succeed
- *   - `fields lines` reads the messages of mixed.py as every kind of object, and prints a line for each pointer */
+ *   - `fields lines` reads the messages of generated.py as every kind of object, and prints a line for each pointer */
 
 /* The lines of `fields lines`. For a rejected message, the line is `rejected: ` and the text of the error. For an
  * accepted message, there is a line for each pointer, in preorder. The line has the word of the pointer's kind, and a
@@ -295,7 +295,7 @@ static uint8_t *alone(const uint8_t *from, size_t size) {
     return message;
 }
 
-/* Prints a line for each pointer of the messages that mixed.py wrote. Each message comes after its length. */
+/* Prints a line for each pointer of the messages that generated.py wrote. Each message comes after its length. */
 static int show_lines(void) {
     size_t have;
     uint8_t *all = all_of_input(&have);

@@ -3,7 +3,7 @@
     anything.py any     reads a stream. Prints how many messages are accepted, how many pointers they have, and how
                         many readings succeed in total. A pointer is read as a struct, as a
                         text, as data, and as a list of each kind.
-    anything.py lines   reads the messages of tests/c/mixed.py. Prints a line for each of these pointers and for each
+    anything.py lines   reads the messages of generated.py mixed. Prints a line for each of these pointers and for each
                         rejected message, as the head of tests/c/fields.c says.
 
 The messages are the standard input."""

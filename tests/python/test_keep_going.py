@@ -127,7 +127,7 @@ class KeepGoing(unittest.TestCase):
     def test_any_streams(self):
         source, refused = random.Random(11), 0
         for _ in range(150):
-            frames = [b"".join(generated.pieces(archives.segments_of(source))) for _ in range(source.randint(0, 6))]
+            frames = [generated.framed(archives.segments_of(source)) for _ in range(source.randint(0, 6))]
             wanted, offset = [], 0
             for number, frame in enumerate(frames):
                 try:

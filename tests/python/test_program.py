@@ -9,12 +9,11 @@ import shutil
 import subprocess
 import unittest
 from concurrent.futures import ThreadPoolExecutor
-from importlib.machinery import SourceFileLoader
-from importlib.util import module_from_spec, spec_from_loader
 from pathlib import Path
 
 import capn
 from messages import hostile
+from test_reading import generated
 from tried import given, settings, some
 
 TOP = Path(__file__).resolve().parents[2]
@@ -23,14 +22,6 @@ REFERENCE = TOP / "tests" / "reference"
 LIMITS = capn.Limits(message_words=4096, budget=64, depth=8)
 SAME = ["--message-words", "4096", "--budget", "64", "--depth", "8"]
 settings.register_profile("program", deadline=None, max_examples=200, derandomize=True)
-
-
-def script(name):
-    """Returns a program of the folder tests/reference as a module."""
-    spec = spec_from_loader(name, SourceFileLoader(name, str(REFERENCE / name)))
-    module = module_from_spec(spec)
-    spec.loader.exec_module(module)
-    return module
 
 
 def program(*words, data):
@@ -83,8 +74,8 @@ class OfTheComparisons(unittest.TestCase):
     """Tests the messages for which other tests compare the program with the reference implementation."""
 
     def test_a_thousand_messages(self):
-        generated, source = script("generated"), random.Random(46)
-        messages = [b"".join(generated.pieces(generated.message(source))) for _ in range(1000)]
+        source = random.Random(46)
+        messages = [generated.framed(generated.message(source)) for _ in range(1000)]
         with ThreadPoolExecutor(4) as pool:
             wrote = list(pool.map(lambda message: program("canonical", data=message), messages))
         accepted = 0
@@ -96,7 +87,7 @@ class OfTheComparisons(unittest.TestCase):
         self.assertLess(accepted, 800)
 
     def test_hostile_inputs(self):
-        for name, data, form in script("hostile").INPUTS:
+        for name, data, form in generated.INPUTS:
             with self.subTest(name):
                 checked = called(capn.check, data, form)
                 if isinstance(checked, capn.Checked):

@@ -13,10 +13,12 @@ import capn
 
 PROGRAM = Path(__file__).resolve().parents[1] / "program"
 sys.path.append(str(PROGRAM))
+import generated  # noqa: E402: it is in the folder that was added
+
 spec = spec_from_loader("archives", SourceFileLoader("archives", str(PROGRAM / "archives")))
 archives = module_from_spec(spec)
 spec.loader.exec_module(archives)
-model, generated = archives.model, archives.GENERATED
+model = archives.model
 
 
 def tree(found):
@@ -79,7 +81,7 @@ class Reading(unittest.TestCase):
         for _ in range(3000):
             words = archives.segments_of(source)
             segments = [struct.pack(f"<{len(segment)}Q", *segment) for segment in words]
-            framed = b"".join(generated.pieces(words))
+            framed = generated.framed(words)
             limits = source.choice([capn.Limits(), capn.Limits(budget=8), capn.Limits(depth=2, tariff="plain")])
             with self.subTest(message=framed.hex(), limits=limits):
                 accepted += self.compare(framed, "stream", segments, limits)
@@ -109,7 +111,7 @@ class Streams(unittest.TestCase):
         source = random.Random(47)
         for _ in range(500):
             stream = b"".join(
-                b"".join(generated.pieces(archives.segments_of(source))) for _ in range(source.randint(0, 6)))
+                generated.framed(archives.segments_of(source)) for _ in range(source.randint(0, 6)))
             for packed in False, True:
                 data = generated.packed(stream) if packed else stream
                 if source.random() < 0.3:

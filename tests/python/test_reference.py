@@ -61,7 +61,7 @@ def places(folder):
 class Entries(unittest.TestCase):
     def test_entries(self):
         source = random.Random(48)
-        messages = [b"".join(generated.pieces(archives.segments_of(source))) for _ in range(TRIED)]
+        messages = [generated.framed(archives.segments_of(source)) for _ in range(TRIED)]
         with tempfile.TemporaryDirectory() as folder:
             program = places(folder)
             if program is None:

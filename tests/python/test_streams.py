@@ -170,7 +170,7 @@ class NoByteAfterIt(unittest.TestCase):
     def test_where_a_file_stands(self):
         source, seen = random.Random(68), 0
         for _ in range(150):
-            frames = [b"".join(generated.pieces(archives.segments_of(source))) for _ in range(source.randint(1, 5))]
+            frames = [generated.framed(archives.segments_of(source)) for _ in range(source.randint(1, 5))]
             if source.random() < 0.1:
                 frames.insert(source.randrange(len(frames)), stream(source.randbytes(66_000), bytes(3000)))
             for packed in False, True:
@@ -204,7 +204,7 @@ class NoByteAfterIt(unittest.TestCase):
         source, refusals = random.Random(69), 0
         for _ in range(500):
             data = b"".join(
-                b"".join(generated.pieces(archives.segments_of(source))) for _ in range(source.randint(0, 6)))
+                generated.framed(archives.segments_of(source)) for _ in range(source.randint(0, 6)))
             packed = source.random() < 0.7
             sent = bytearray(generated.packed(data) if packed else data)
             for _ in range(source.choice([0, 0, 1, 3])):
@@ -691,7 +691,7 @@ class Ahead(unittest.TestCase):
     def test_the_same_answers(self):
         source = random.Random(67)
         for _ in range(200):
-            frames = [b"".join(generated.pieces(archives.segments_of(source))) for _ in range(source.randint(0, 5))]
+            frames = [generated.framed(archives.segments_of(source)) for _ in range(source.randint(0, 5))]
             for packed in False, True:
                 data = b"".join(frames)
                 data = generated.packed(data) if packed else data
@@ -771,7 +771,7 @@ class Splitters(unittest.TestCase):
     def test_any_pieces(self):
         source = random.Random(65)
         for _ in range(400):
-            frames = [b"".join(generated.pieces(archives.segments_of(source))) for _ in range(source.randint(0, 5))]
+            frames = [generated.framed(archives.segments_of(source)) for _ in range(source.randint(0, 5))]
             for form in "stream", "packed":
                 data = b"".join(frames)
                 data = generated.packed(data) if form == "packed" else data
@@ -863,7 +863,7 @@ class Splitters(unittest.TestCase):
     def test_wanted_leaves_what_follows(self):
         source = random.Random(66)
         for _ in range(200):
-            frame = b"".join(generated.pieces(archives.segments_of(source)))
+            frame = generated.framed(archives.segments_of(source))
             for form in "stream", "packed":
                 data = generated.packed(frame) if form == "packed" else frame
                 splitter, at, got = capn.Splitter(form), 0, []

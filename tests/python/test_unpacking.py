@@ -107,7 +107,7 @@ class Splitters(unittest.TestCase):
         for most in 1, 100, 1000:
             with unittest.mock.patch.multiple(capn._splitter, _MOST=most, _TIMES=0):
                 for _ in range(150):
-                    data = b"".join(b"".join(generated.pieces(archives.segments_of(source)))
+                    data = b"".join(generated.framed(archives.segments_of(source))
                                     for _ in range(source.randint(0, 5))) + EMPTY * source.choice([0, 0, 3, 700])
                     sent = bytearray(generated.packed(data))
                     for _ in range(source.choice([0, 0, 1, 3])):

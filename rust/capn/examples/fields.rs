@@ -4,7 +4,7 @@
 //!
 //!     fields old | new
 //!     fields any         reads each pointer of each message as whatever it may be, and counts what it reads
-//!     fields lines       a line for each pointer of the messages of `tests/c/mixed.py`, as `tests/c/fields.c` has it
+//!     fields lines       a line for each pointer of the messages of `generated.py mixed`, as `tests/c/fields.c` has it
 use capn::{Error, Form, Index, Limits, Number, Struct, Value};
 use std::io::{self, Read, Write};
 

@@ -121,7 +121,7 @@ fn messages_that_are_kept() {
     assert_eq!(kept.unwrap(), two);
 }
 
-/// Pseudo-random numbers.
+/// Pseudo-random numbers. These tests make their own messages, because `cargo test` runs without Python.
 struct Source(u64);
 
 impl Source {
