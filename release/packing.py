@@ -97,8 +97,8 @@ def installed(folder, prefix, libraries, *words):
 
 
 def sources(folder):
-    """Copies the files of the repository that the archive has besides its pages: the Rust crate, the Go module, and the
-    examples in C. Leaves out tests that need a clone."""
+    """Copies files of the repository for the archive: the Rust crate, the Go module, and the examples in C. Doesn't
+    copy the pages. Leaves out tests that need a clone."""
     left_out = shutil.ignore_patterns(".gitignore", "target", "reference", "test", "*_test.go", "__pycache__")
     for name in ("rust", "go", "c/examples"):
         shutil.copytree(os.path.join(TOP, name), os.path.join(folder, name), ignore=left_out)

@@ -178,8 +178,8 @@ class Archive:
         return ends
 
     def end(self, at: int) -> int:
-        """Returns the end of the message that begins at byte `at`, by the message's segment table. Returns 0 if the
-        message has more words than the sample allows."""
+        """Returns the end of the message that begins at byte `at`, as the message's segment table gives it. Returns 0
+        if the message has more words than the sample allows."""
         if at + 8 > self.size:
             return self.size + 1
         last, first = struct.unpack_from("<II", self.data, at)
