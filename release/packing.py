@@ -33,7 +33,7 @@ class Stop(Exception):
 
 
 def said(*words, cwd=TOP, env=None, text=True):
-    """Runs a command, and returns its output. If the command fails, the exception has the output."""
+    """Runs a command, and returns its output. If the command fails, raises an exception that has the output."""
     try:
         ran = subprocess.run(words, cwd=cwd, env=env, stdout=subprocess.PIPE, stderr=subprocess.PIPE, check=False)
     except FileNotFoundError:

@@ -115,8 +115,8 @@ class Sample:
         return message.cost is not None and (message.cost > 0 or self.has_null)
 
     def is_like(self, message: Message) -> bool:
-        """Returns whether a message is accepted and looks like the messages of the sample. It must not be longer than
-        these messages. It must not have more unused words than they have."""
+        """Returns whether a message is accepted and looks like the messages of the sample. The message must
+        not be longer than the messages of the sample, and must not have more unused words than they have."""
         return self.takes(message) and message.words <= min(self.words, self.unused + (message.cost or 0))
 
 

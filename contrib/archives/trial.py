@@ -64,8 +64,8 @@ def fault_of(archive: bytes) -> str:
 
 
 def recovered(what: str, damaged: bytes, kept: list[bytes], *places: Place, options: tuple[str, ...] = ()) -> None:
-    """Checks that recover.py keeps these messages of a damaged archive, and no other bytes. Also checks that recover.py
-    reports the offset, the length and the error of each range of bytes that it skips."""
+    """Checks that recover.py keeps the given messages of a damaged archive, and no other bytes. Also checks that
+    recover.py reports the offset, the length and the error of each range of bytes that it skips."""
     Path("damaged").write_bytes(damaged)
     whole = b"".join(kept)
     out, errors, status = script("recover.py", "--good", "good", *options, "damaged")
