@@ -205,7 +205,7 @@ class Archive:
 
     def between(self, bad: Message, good: int) -> Iterator[Span]:
         """Yields spans of the bytes from a bad message up to the next message that is like the sample. If the segment
-        tables lead from the bad message exactly to that good message, they say where each message between the two
+        tables lead from the bad message exactly to this next message, they say where each message between the two
         begins. An accepted message between the two is then kept, even if it isn't like the sample."""
         end = bad.begin
         with closing(listed(self.path, bad.begin)) as found:
