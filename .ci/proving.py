@@ -104,7 +104,7 @@ class Run:
         self.done, self.since, self.lines, self.after = 0, since or time.time(), [], []
 
     def when(self, names, call):
-        """Registers a function, which is called once when all the given crates are proved."""
+        """Registers a function, which is called once, as soon as all the given crates are proved."""
         self.after.append((set(names), call))
 
     def look(self, line):
@@ -140,7 +140,7 @@ class Run:
             return ran.wait() == 0
 
     def failures(self):
-        """Returns the prover's output for each crate that isn't proved, and the last lines of `rt ci`."""
+        """Returns the prover's output for each crate that isn't proved, and the last lines that `rt ci` printed."""
         text = "\n".join(self.lines)
         lines = r"^== \w+(?:: its tests)?\n(?:(?!^== ).*\n)*?^rt: \w+(?:: its tests are)? NOT PROVED.*$"
         parts = re.findall(lines, text, re.M)

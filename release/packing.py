@@ -33,7 +33,7 @@ class Stop(Exception):
 
 
 def said(*words, cwd=TOP, env=None, text=True):
-    """Runs a command, and returns its output. If the command fails, the exception has the output."""
+    """Runs a command, and returns its output. If the command fails, raises an exception that has the output."""
     try:
         ran = subprocess.run(words, cwd=cwd, env=env, stdout=subprocess.PIPE, stderr=subprocess.PIPE, check=False)
     except FileNotFoundError:
@@ -97,8 +97,8 @@ def installed(folder, prefix, libraries, *words):
 
 
 def sources(folder):
-    """Copies the files of the repository that the archive has besides its pages: the Rust crate, the Go module, and the
-    examples in C. Leaves out tests that need a clone."""
+    """Copies files of the repository for the archive: the Rust crate, the Go module, and the examples in C. Doesn't
+    copy the pages. Leaves out tests that need a clone."""
     left_out = shutil.ignore_patterns(".gitignore", "target", "reference", "test", "*_test.go", "__pycache__")
     for name in ("rust", "go", "c/examples"):
         shutil.copytree(os.path.join(TOP, name), os.path.join(folder, name), ignore=left_out)

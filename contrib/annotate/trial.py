@@ -101,7 +101,7 @@ def annotated(message, *words):
 
 
 def paged(lines, message=None):
-    """Returns the exit status of `page`, the page and what `page` writes on standard error."""
+    """Returns three results of `page`: its exit status, the page, and its output on standard error."""
     with tempfile.TemporaryDirectory() as folder:
         given = []
         if message is not None:
@@ -192,7 +192,7 @@ def hidden_of(lines):
 
 
 def pages():
-    """Makes pages of some messages, and reads them. Returns those that a browser then opens."""
+    """Makes pages for some messages, and reads these pages. Returns the pages that a browser then opens."""
     made = {}
     for name, message, form in [("every kind", every_kind(), "stream"), ("double", double(), "stream"),
                                 ("bare", every_kind()[16:128], "bare"), ("two", every_kind() * 2, "stream")]:
@@ -216,7 +216,7 @@ def pages():
 
 
 def nasty():
-    """Makes pages of messages and lines that contain parts of HTML. Returns one of the pages."""
+    """Makes pages from messages with parts of HTML, and from lines with parts of HTML. Returns one of the pages."""
     message = b"".join(map(text_of, NASTY))
     lines = annotated(message)
     _, text, _ = paged(lines, message)
@@ -248,7 +248,8 @@ def nasty():
 
 
 def large(count):
-    """Makes pages of two messages of `count` words each. Returns both pages, and prints how long each page took."""
+    """Makes a page for each of two messages, which have `count` words each. Returns both pages, and prints how long
+    each page took."""
     made = {}
     for name, message in [("texts", many(count)), ("numbers", numbers(count))]:
         lines = annotated(message)

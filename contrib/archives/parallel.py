@@ -56,8 +56,8 @@ class Answer(NamedTuple):
 
 
 def parts_of(path: str, limits: list[str], most: int) -> Iterator[Part]:
-    """Yields the parts of an archive as soon as they are known. Each part except the last has complete messages, with
-    at least `most` bytes in all."""
+    """Yields the parts of an archive as soon as they are known. Each part except the last has complete messages, and
+    ends as soon as it has `most` bytes or more."""
     before = begin = last = 0
     command = [CAPN, "list", "--keep-going", *limits]
     with open(path, "rb") as archive, subprocess.Popen(

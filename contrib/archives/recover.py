@@ -115,8 +115,8 @@ class Sample:
         return message.cost is not None and (message.cost > 0 or self.has_null)
 
     def is_like(self, message: Message) -> bool:
-        """Returns whether a message is accepted and looks like the messages of the sample. It must not be longer than
-        these messages. It must not have more unused words than they have."""
+        """Returns whether a message is accepted and looks like the messages of the sample. The message must
+        not be longer than the messages of the sample, and must not have more unused words than they have."""
         return self.takes(message) and message.words <= min(self.words, self.unused + (message.cost or 0))
 
 
@@ -178,8 +178,8 @@ class Archive:
         return ends
 
     def end(self, at: int) -> int:
-        """Returns the end of the message that begins at byte `at`, by the message's segment table. Returns 0 if the
-        message has more words than the sample allows."""
+        """Returns the end of the message that begins at byte `at`, as the message's segment table gives it. Returns 0
+        if the message has more words than the sample allows."""
         if at + 8 > self.size:
             return self.size + 1
         last, first = struct.unpack_from("<II", self.data, at)
@@ -205,7 +205,7 @@ class Archive:
 
     def between(self, bad: Message, good: int) -> Iterator[Span]:
         """Yields spans of the bytes from a bad message up to the next message that is like the sample. If the segment
-        tables lead from the bad message exactly to that good message, they say where each message between the two
+        tables lead from the bad message exactly to this next message, they say where each message between the two
         begins. An accepted message between the two is then kept, even if it isn't like the sample."""
         end = bad.begin
         with closing(listed(self.path, bad.begin)) as found:

@@ -21,8 +21,8 @@ from messages import canonical, framed, in_two_segments, with_zeros
 
 CAPN = os.environ["CAPN"]
 MEGABYTE = 1 << 20
-# The number of times that the messages after a damaged segment table are repeated. One damaged table announces 5,000
-# words. The repeated messages have so many words that the 5,000 words end inside the archive.
+# The messages after a damaged segment table are repeated this number of times. One damaged table announces 5,000 words.
+# The repeated messages have so many words that the 5,000 words end inside the archive.
 MANY = 6
 Ran = tuple[bytes, str, int]
 Place = tuple[int, int, str]
@@ -64,8 +64,8 @@ def fault_of(archive: bytes) -> str:
 
 
 def recovered(what: str, damaged: bytes, kept: list[bytes], *places: Place, options: tuple[str, ...] = ()) -> None:
-    """Checks that recover.py keeps these messages of a damaged archive, and no other bytes. Also checks that recover.py
-    reports the offset, the length and the error of each range of bytes that it skips."""
+    """Checks that recover.py keeps the given messages of a damaged archive, and no other bytes. Also checks that
+    recover.py reports the offset, the length and the error of each range of bytes that it skips."""
     Path("damaged").write_bytes(damaged)
     whole = b"".join(kept)
     out, errors, status = script("recover.py", "--good", "good", *options, "damaged")
@@ -89,7 +89,7 @@ def sized(message: bytes, words: int) -> bytes:
 
 
 def recover(source: random.Random, messages: list[bytes]) -> None:
-    """Damages an archive in the middle, by each kind of damage. Checks that recover.py prints the right line for the
+    """Tries each kind of damage in the middle of an archive. Checks that recover.py prints the right line for the
     damage."""
     Path("good").write_bytes(b"".join(messages[:100]))
     before, after = messages[:150], messages[150:]
