@@ -252,9 +252,9 @@ fn counted(alloc: Global, form: Form, input: &[u8]) -> (Result<u64, RunFault>, V
 #[test]
 fn a_run_from_the_first_message_to_the_result(rt: HostRuntime) {
     let (three, text) = counted(rt.alloc(), Form::Stream, &STREAM);
-    assert!(rt; three == Ok(3) && text.as_slice() == &PLACES);
+    assert!(rt; three == Ok(3) && text.as_slice() == PLACES.as_slice());
     let (unpacked, text) = counted(rt.alloc(), Form::Packed, &PACKED);
-    assert!(rt; unpacked == Ok(3) && text.as_slice() == &PLACES);
+    assert!(rt; unpacked == Ok(3) && text.as_slice() == PLACES.as_slice());
     let (cut, text) = counted(rt.alloc(), Form::Stream, &STREAM[..31]);
     let fault = RunFault::Refused(place(1), Refusal::Frame(FrameFault::Cut));
     assert!(rt; cut == Err(fault) && text.as_slice() == &PLACES[..3]);
