@@ -7,12 +7,19 @@ use Rattle.capn_canon.specs.declared.form.Form.{Form}
 use Rattle.capn_canon.specs.declared.form.Form.TheVariants as forms
 use Rattle.capn_serve.specs.declared.fault.RunFault.{RunFault}
 use Rattle.capn_serve.specs.declared.fault.RunFault.TheVariants as faults
+use Rattle.capn_serve.specs.declared.pick.StreamForm.{StreamForm}
+use Rattle.capn_serve.specs.declared.pick.StreamForm.TheVariants as stream_forms
 use Rattle.capn_serve.specs.Fold.{Fold, IfGoing, Leaves}
 use Rattle.capn_serve.specs.StreamRun as streams
 use Rattle.capn_serve.specs.StreamRun.{IsAhead, IsNeeded, TakesBytes}
 use Rattle.capn_serve.specs.PackedRun as packings
 use Rattle.capn_serve.specs.BareRun as bares
 use Rattle.capn_serve.specs.WholeInput.{most_input}
+
+-- The `Form` of an input that holds a stream in the given `StreamForm`.
+abbrev pub form_of : StreamForm → Form
+form_of stream_forms.Stream = forms.Stream
+form_of stream_forms.Packed = forms.Packed
 
 -- The greatest number of bytes that a stream may have.
 abbrev pub most_stream : ℕ

@@ -1,6 +1,9 @@
 //! The options of `pick`, and the ranges of message numbers.
 
-use capn_canon::Limits;
+ghost use Rattle.std.specs.Prelude.{◌≡◌};
+ghost use Rattle.capn_serve.specs.FormRun.{form_of};
+
+use capn_canon::{Form, Limits};
 
 /// The encoding of a stream of messages.
 #[derive(Clone, Copy, Debug, PartialEq, Eq)]
@@ -9,6 +12,18 @@ pub enum StreamForm {
     Stream,
     /// Frames, one after the other, packed.
     Packed,
+}
+
+impl StreamForm {
+    /// Returns the `Form` of an input that holds a stream in this encoding.
+    pub fn form(self) -> Form
+        ensures { result ≡ form_of self }
+    {
+        match self {
+            StreamForm::Stream => Form::Stream,
+            StreamForm::Packed => Form::Packed,
+        }
+    }
 }
 
 /// The options of `pick`, which writes messages of a stream by their numbers. (Our own.)

@@ -6,11 +6,9 @@ ghost use Rattle.capn_serve.specs.Pick.{AreAscending};
 ghost use Rattle.capn_serve.specs.PickRun.{Picks, PicksRanges};
 
 use crate::fault::RunFault;
-use crate::packed_run::run_packed;
+use crate::finish::run_messages;
 use crate::pick::{Pick, Range, StreamForm};
 use crate::picker::Picker;
-use crate::service::Run;
-use crate::stream_run::run_stream;
 use capn_canon::Limits;
 use capn_words::Watched;
 use std::alloc::Allocator;
@@ -47,14 +45,8 @@ pub fn run_only<R: Read, W: Write, A: Allocator + Copy>(
         (R.remaining (inner_of reader.new)) (W.contents (inner_of writer.old)) (W.contents (inner_of writer.new))
         (has_failed reader.new) (has_failed writer.new) result }
 {
-    let most = limits.message_words();
-    let mut run = Run::new(Picker { rest: ranges });
-    match form {
-        StreamForm::Stream => run_stream(alloc, most, u64::MAX, &mut run, reader, writer),
-        StreamForm::Packed => {
-            run_packed(alloc, most, u64::MAX, u64::MAX, &mut run, reader, writer)
-        }
-    }
+    let picker = Picker { rest: ranges };
+    run_messages(alloc, form.form(), limits, picker, reader, writer)
 }
 
 /// Writes the frames of the messages from number `pick.from` to number `pick.to`. [`run_only`] states how the stream is

@@ -4,10 +4,13 @@ ghost use Rattle.std.specs.Prelude.{◌≡◌};
 ghost use Rattle.capn_serve.specs.inner.Picker as spec;
 
 use crate::adding::add_bytes;
-use crate::fault::ServeFault;
+use crate::begun::Begun;
+use crate::fault::{RunFault, ServeFault};
+use crate::finish::Finish;
 use crate::pick::Range;
 use crate::position::{Position, number_of};
 use crate::service::Service;
+use capn_canon::Refusal;
 use capn_words::{Space, Watched};
 use std::alloc::Allocator;
 use std::io::Write;
@@ -79,5 +82,50 @@ impl<'r> Service for Picker<'r> {
             return add_bytes(frame, text, writer);
         }
         Ok(())
+    }
+}
+
+impl<'r> Finish for Picker<'r> {
+    ghost use Rattle.capn_serve.specs.Finish.{no_closing, nothing_told};
+    ghost use Rattle.capn_serve.specs.inner.Picker as spec;
+
+    type Found = ();
+
+    type Fault = RunFault;
+
+    ghost closing = { no_closing };
+
+    ghost told = { nothing_told };
+
+    ghost outcome = { spec.outcome };
+
+    ghost stops = { spec.stops };
+
+    fn write_closing<W: Write, A: Allocator + Copy>(
+        &self,
+        _alloc: A,
+        _at: Position,
+        _writer: &mut Watched<W>,
+    ) -> Result<(), RunFault> {
+        Ok(())
+    }
+
+    fn write_told<W: Write, A: Allocator + Copy>(
+        &self,
+        _alloc: A,
+        _at: Position,
+        _refusal: &Refusal,
+        _begun: &Begun<A>,
+        _writer: &mut Watched<W>,
+    ) -> Result<(), RunFault> {
+        Ok(())
+    }
+
+    fn outcome(&self, _at: Position) -> Result<(), RunFault> {
+        Ok(())
+    }
+
+    fn stops(&self, _at: Position, stopped: RunFault) -> RunFault {
+        stopped
     }
 }

@@ -2,7 +2,7 @@
 
 ghost use Rattle.capn_serve.specs.Pick.{AreAscending};
 
-use capn_canon::{Limits, Refusal};
+use capn_canon::{Form, Limits, Refusal};
 use capn_serve::{Pick, Position, Range, RunFault, StreamForm, run_only, run_pick};
 use capn_stream::FrameFault;
 use capn_words::Watched;
@@ -266,4 +266,11 @@ fn reads_nothing_for_no_range(rt: HostRuntime) -> Result<(), Fail> {
     );
     assert!(rt; ending == Ok(()) && writer.into_inner().is_empty());
     Ok(())
+}
+
+/// A stream that is packed is an input in the packed form, and any other stream is one in the form of a stream.
+#[test]
+fn forms_of_streams(rt: HostRuntime) {
+    assert!(rt; StreamForm::Stream.form() == Form::Stream);
+    assert!(rt; StreamForm::Packed.form() == Form::Packed);
 }
