@@ -14,12 +14,13 @@ use Rattle.capn_canon.specs.declared.refusal.Refusal.{Refusal}
 use Rattle.capn_canon.specs.declared.refusal.Refusal.TheVariants as refusals
 use Rattle.capn_canon.proofs.shared.NotRefused.{accepted-not_refused}
 use Rattle.capn_canon.proofs.shared.OneRefusal.{message_part, one_message_refusal}
+use Rattle.capn_serve.specs.FormRun.{form_of}
 use Rattle.capn_serve.specs.declared.fault.RunFault.{RunFault}
 use Rattle.capn_serve.specs.declared.position.Position.{Position}
 use Rattle.capn_serve.specs.declared.service.Run.{Run}
 use Rattle.capn_serve.proofs.shared.OneServing.{IsOneWay, one_serving}
 use Rattle.capn_cmp.specs.CmpMessages.{CmpState, Compares, IsForm, IsReport, refuses, report, serves}
-use Rattle.capn_cmp.specs.CmpRun.{cmp_fold, first_run, form_of, outcome}
+use Rattle.capn_cmp.specs.CmpRun.{cmp_fold, first_run, outcome}
 use Rattle.capn_cmp.specs.Laws.{OneCmp}
 use Rattle.capn_cmp.specs.LinesApart.{AreApart}
 use Rattle.capn_cmp.specs.ShownText.{IsShown, shown_with_ways}

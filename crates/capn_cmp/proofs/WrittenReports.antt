@@ -2,14 +2,14 @@
 use Rattle.std.proofs.Common.{◌≡◌, ◌≢◌, ◌⊎◌, inl, inr, ℕ, List, [], ◌∷◌, ◌++◌, length, Bool, true, false, Option}
 use Rattle.std.proofs.Common.{Ok, Err, refl, ap, sym, ◌∙◌, arith, cond, nat_lt}
 use Rattle.capn_serve.specs.Fold.{AreServed, Fold, IsFolded, Part, texts_of}
-use Rattle.capn_serve.specs.FormRun.{AreMessages}
+use Rattle.capn_serve.specs.FormRun.{AreMessages, form_of}
 use Rattle.capn_serve.specs.declared.fault.RunFault.{RunFault}
 use Rattle.capn_serve.specs.declared.pick.StreamForm.{StreamForm}
 use Rattle.capn_serve.specs.declared.pick.StreamForm.TheVariants as streams
 use Rattle.capn_serve.specs.declared.position.Position.{Position}
 use Rattle.capn_serve.proofs.shared.Until.{is_done, known}
 use Rattle.capn_cmp.specs.CmpMessages.{CmpState, Compares, report}
-use Rattle.capn_cmp.specs.CmpRun.{cmp_fold, first_run, form_of, found_by, outcome}
+use Rattle.capn_cmp.specs.CmpRun.{cmp_fold, first_run, found_by, outcome}
 use Rattle.capn_cmp.specs.Laws.{WritesExactly}
 use Rattle.capn_cmp.specs.declared.cmp_order.CmpOrder.{CmpOrder}
 use Rattle.capn_cmp.specs.declared.cmp_run.Comparison.TheVariants as comparisons

@@ -1,14 +1,11 @@
 -- A run of `cmp`: its fold, its first state and its result. (Our own.)
 use Rattle.std.specs.Prelude.{ℕ, nat_lt, List, Bool, cond, Option, Result, Ok, Err}
-use Rattle.capn_canon.specs.declared.form.Form.{Form}
-use Rattle.capn_canon.specs.declared.form.Form.TheVariants as forms
 use Rattle.capn_serve.specs.Fold.{Fold, fold_until}
 use Rattle.capn_serve.specs.Finish.{Finish, Finished, finish_of, last_result, no_closing, nothing_told}
+use Rattle.capn_serve.specs.FormRun.{form_of}
 use Rattle.capn_serve.specs.StreamRun as runs
 use Rattle.capn_serve.specs.declared.fault.RunFault.{RunFault}
 use Rattle.capn_serve.specs.declared.position.Position.{Position}
-use Rattle.capn_serve.specs.declared.pick.StreamForm.{StreamForm}
-use Rattle.capn_serve.specs.declared.pick.StreamForm.TheVariants as streams
 use Rattle.capn_serve.specs.declared.service.Run.{Run}
 use Rattle.capn_cmp.specs.CmpMessages.{CmpState, done, first_state, refuses, serves}
 use Rattle.capn_cmp.specs.declared.cmp_order.CmpOrder.{CmpOrder}
@@ -16,11 +13,6 @@ use Rattle.capn_cmp.specs.declared.cmp_run.Comparison.{Comparison}
 use Rattle.capn_cmp.specs.declared.cmp_run.Comparison.TheVariants as comparisons
 use Rattle.capn_cmp.specs.declared.fault.CmpFault.{CmpFault}
 use Rattle.capn_cmp.specs.declared.fault.CmpFault.TheVariants as faults
-
--- The `Form` of an input that holds a stream in the given `StreamForm`.
-abbrev pub form_of : StreamForm → Form
-form_of streams.Stream = forms.Stream
-form_of streams.Packed = forms.Packed
 
 -- The fold of a run of `cmp` with the options `order`. A state is `done` after a message that differs from the first.
 abbrev pub cmp_fold : CmpOrder → Fold (Run CmpState)

@@ -4,11 +4,11 @@ use Rattle.capn_words.specs.Message.{total}
 use Rattle.capn_stream.specs.Frames.{Frames}
 use Rattle.capn_canon.specs.declared.form.Form.TheVariants as forms
 use Rattle.capn_serve.specs.Fold.{Part, frames_of}
-use Rattle.capn_serve.specs.FormRun.{AreMessages, most_stream}
+use Rattle.capn_serve.specs.FormRun.{AreMessages, form_of, most_stream}
 use Rattle.capn_serve.specs.declared.fault.RunFault.{RunFault}
 use Rattle.capn_serve.specs.declared.service.Run.{Run}
 use Rattle.capn_cmp.specs.CmpMessages.{CmpState, IsForm}
-use Rattle.capn_cmp.specs.CmpRun.{cmp_fold, first_run, form_of, outcome}
+use Rattle.capn_cmp.specs.CmpRun.{cmp_fold, first_run, outcome}
 use Rattle.capn_cmp.specs.declared.cmp_order.CmpOrder.{CmpOrder}
 use Rattle.capn_cmp.specs.declared.cmp_run.Comparison.TheVariants as comparisons
 

@@ -2,14 +2,13 @@
 
 ghost use Rattle.std.specs.Prelude.{◌≡◌, false};
 ghost use Rattle.capn_words.specs.Watched.{inner_of, has_failed};
-ghost use Rattle.capn_cmp.specs.CmpRun as spec;
 ghost use Rattle.capn_cmp.specs.CmpRun.{Compared};
 
 use crate::cmp_order::CmpOrder;
 use crate::cmp_service::CmpService;
 use crate::fault::CmpFault;
-use capn_canon::{Form, Refusal};
-use capn_serve::{Begun, Finish, Position, RunFault, StreamForm, run_messages};
+use capn_canon::Refusal;
+use capn_serve::{Begun, Finish, Position, RunFault, run_messages};
 use capn_words::Watched;
 use std::alloc::Allocator;
 use std::io::{Read, Write};
@@ -21,15 +20,6 @@ pub enum Comparison {
     Same,
     /// A message differs from the first one.
     Different,
-}
-
-fn form_of(form: StreamForm) -> Form
-    ensures { result ≡ spec.form_of form }
-{
-    match form {
-        StreamForm::Stream => Form::Stream,
-        StreamForm::Packed => Form::Packed,
-    }
 }
 
 impl<B: Allocator> Finish for CmpService<B> {
@@ -111,7 +101,7 @@ pub fn run_cmp<R: Read, W: Write, A: Allocator + Copy>(
         (W.contents (inner_of writer.old)) (W.contents (inner_of writer.new)) (has_failed reader.new)
         (has_failed writer.new) result }
 {
-    let form = form_of(order.form);
+    let form = order.form.form();
     let service = CmpService::new(alloc, order.limits);
     run_messages(alloc, form, order.limits, service, reader, writer)
 }

@@ -2,10 +2,11 @@ use Rattle.std.proofs.Common.{subst}
 use Rattle.capn_words.specs.Watched.{inner_of, has_failed}
 use Rattle.capn_canon.specs.declared.form.Form.{Form}
 use Rattle.capn_serve.specs.Finish.{Ends}
+use Rattle.capn_serve.specs.FormRun.{form_of}
 use Rattle.capn_serve.specs.StreamRun as runs
 use Rattle.capn_serve.proofs.shared.Finishes.{finished}
 use Rattle.capn_cmp.specs.CmpMessages.{CmpState}
-use Rattle.capn_cmp.specs.CmpRun.{cmp_finish, cmp_fold, first_run, form_of}
+use Rattle.capn_cmp.specs.CmpRun.{cmp_finish, cmp_fold, first_run}
 use Rattle.capn_cmp.proofs.Faithful.{cmp_faithful}
 use Rattle.capn_cmp.proofs.cmp_run.run_cmp.Goals as goal
 
@@ -18,8 +19,8 @@ returns g c =
     (g.R.Read.remaining (inner_of c.args.reader.now)) (g.R.Read.remaining (inner_of c.run_messages.new.reader))
     (g.W.Write.contents (inner_of c.args.writer.now)) (g.W.Write.contents (inner_of c.run_messages.new.writer))
     (has_failed c.run_messages.new.reader) (has_failed c.run_messages.new.writer) c.run_messages.result)
-    c.form_of-form.ensures
-    (subst (λ (s : CmpState). Ends (cmp_fold order) (runs.first_run s) cmp_finish c.form_of-form.result
+    c.form-form.ensures
+    (subst (λ (s : CmpState). Ends (cmp_fold order) (runs.first_run s) cmp_finish c.form-form.result
     (g.R.Read.remaining (inner_of c.args.reader.now)) (g.R.Read.remaining (inner_of c.run_messages.new.reader))
     (g.W.Write.contents (inner_of c.args.writer.now)) (g.W.Write.contents (inner_of c.run_messages.new.writer))
     (has_failed c.run_messages.new.reader) (has_failed c.run_messages.new.writer) c.run_messages.result)
