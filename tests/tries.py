@@ -33,8 +33,8 @@ MOST_LINES = 40
 # A job tests a crate. It has the name of the crate, a word that says what is tested, and a function that returns the
 # errors and the output.
 Job = collections.namedtuple("Job", "crate what run")
-# The code of a test file: its crate, its imports from the product, and the words of the rest. `calls` are the words
-# before a parenthesis, `dotted` those of them after a dot, and `paths` the pairs around `::`.
+# The code of a test file: its crate, its imports from the product, and the words of the rest. `calls` has the words
+# before a parenthesis. `dotted` has those of them that come after a dot. `paths` has the pairs of words around `::`.
 Code = collections.namedtuple("Code", "crate imports words calls dotted paths")
 # An exported function, and the crate that exports it. For the calls of c/capn.h, the name of the crate is `c`.
 Function = collections.namedtuple("Function", "crate name")
@@ -220,8 +220,8 @@ def methods(crate, types):
 
 def exported():
     """Yields each function that a crate of the product (capn*) exports, each public function of a type that it exports,
-    and each call of c/capn.h. Leaves out what the crate only exports again from another crate of the product, and the
-    laws."""
+    and each call of c/capn.h. Leaves out the laws, and what the crate only exports again from another crate of the
+    product."""
     for crate in product():
         own = [name for path, name in items(crate) if path.split("::")[0] not in product()]
         yield from (Function(crate, name) for name in dict.fromkeys(own) if name[0].islower())
@@ -360,8 +360,8 @@ def nearest(crate, names, tried):
 
 
 def calls_reaching(crate, names):
-    """Finds the first program whose test cases test a crate. Returns the program, and the calls of these cases. They
-    are the calls whose modules name the crate. If there are none, they are the calls whose modules use the crate
+    """Finds the first program that has test cases for a crate. Returns the program, and the calls of these cases. They
+    are the calls whose modules name the crate. If no module names it, they are the calls whose modules use the crate
     indirectly."""
     for one in stored.CRATES:
         found = dict(crates_of_calls(one))
@@ -375,7 +375,7 @@ def calls_reaching(crate, names):
 
 
 def reaching(crate):
-    """Returns what tests a crate: the crates of tests that are the fewest steps away from it, a program with test
-    cases, and the calls of these cases."""
+    """Returns what has to run so that a crate is tested: the crates of tests that are the fewest steps away from the
+    crate, a program with test cases, and the calls of these cases."""
     names = proving.crates()
     return nearest(crate, names, [it for it in names if tests_of(it)]), *calls_reaching(crate, names)

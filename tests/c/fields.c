@@ -159,7 +159,8 @@ static uint64_t read_record(const capn_record *record) {
     return sum;
 }
 
-static volatile uint64_t kept; /* results go here, so that the compiler keeps the reads */
+/* The results are stored here, so that the compiler can't leave out the code that reads. */
+static volatile uint64_t kept;
 
 /* Reads an index entry as a struct, as a text, as data, and as each kind of list. Returns how many of these readings
  * succeed. */
@@ -295,7 +296,8 @@ static uint8_t *alone(const uint8_t *from, size_t size) {
     return message;
 }
 
-/* Prints a line for each pointer of the messages that mixed.py wrote. Each message comes after its length. */
+/* Prints a line for each pointer of the messages that mixed.py wrote. The length of each message comes before the
+ * message. */
 static int show_lines(void) {
     size_t have;
     uint8_t *all = all_of_input(&have);

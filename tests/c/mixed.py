@@ -1,4 +1,5 @@
-"""Writes valid and hostile messages from a fixed seed. Each message comes after its length, a number of 4 bytes.
+"""Writes valid and hostile messages from a fixed seed. The length of each message comes before the message, as a number
+of 4 bytes.
 
     mixed.py COUNT     writes COUNT messages: half of them as tests/reference/generated makes them, and half changed
                        copies of valid ones
@@ -33,8 +34,8 @@ def number(rng):
 
 
 def add(words, rng, depth):
-    """Adds an object to the words of a segment. Returns the pointer to the object, with its offset still 0, and the
-    place where the object begins."""
+    """Adds an object to the words of a segment. Returns the pointer to the object, and the place where the object
+    begins. The offset in this pointer is still 0."""
     kind = rng.random() if depth else 0.3 + 0.7 * rng.random()
     begin = len(words)
     if kind < 0.3:

@@ -182,10 +182,10 @@ static void called(void) {
     is("a struct with a zero word", capn_is_canonical(message + 8, 16, &usual, &report), CAPN_NOT_CANONICAL);
 }
 
-/* Makes calls while every allocation fails. Calls on packed bytes or on a stream of 65 segments return CAPN_MEMORY. So
- * do the calls that pack, unpack or show. For a message in one or two segments, the calls for the canonical bytes and
- * for the index succeed, because they don't allocate. The call for a digest succeeds only if the message itself is
- * canonical. */
+/* Makes calls while every allocation fails. Calls on packed bytes or on a stream of 65 segments return CAPN_MEMORY. The
+ * calls for packing, unpacking and showing also return CAPN_MEMORY. For a message in one or two segments, the calls for
+ * the canonical bytes and for the index succeed, because they don't allocate. The call for a digest succeeds only if
+ * the message itself is canonical. */
 static void without_memory(void) {
     const uint8_t many[272] = {64, 0, 0, 0, 1}, two[24] = {1, 0, 0, 0, 1}, packed[9] = {0x10, 1, 0, 0};
     const uint8_t loose[16] = {0, 0, 0, 0, 1};

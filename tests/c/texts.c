@@ -12,8 +12,9 @@ static void broken(const char *what, const char *text) {
     fprintf(stderr, "texts: %s: %s\n", what, text);
 }
 
-/* Tests the text of an error in buffers of each size. In a small buffer the text is cut, and it always ends with a zero
- * byte. No byte after the buffer is written. The returned length is always the length of the whole text. */
+/* Tests the text of an error in buffers of each size. If the buffer is too small, the text is cut. The text in the
+ * buffer always ends with a zero byte. No byte after the buffer is written. The returned length is always the length of
+ * the whole text. */
 static void is(capn_status status, const capn_report *report, const char *wanted) {
     const size_t length = strlen(wanted);
     if (capn_refusal_text(status, report, NULL, 0) != length) broken("another length without room", wanted);

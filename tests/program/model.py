@@ -633,8 +633,8 @@ def listed(head, walk, segments, with_digest):
 
 
 def needed(greatest, found, tariff):
-    """Returns the lines of `limits`: the number of messages, and the greatest value of each statistic with the number
-    of its message."""
+    """Returns the lines of `limits`. They give the number of messages, and the greatest value of each statistic. With
+    each value comes the number of the message that has it."""
     most = 2**28
     words, paid, deep = (greatest[name][0] for name in greatest)
     lines = [f"messages {found}"]
@@ -648,8 +648,9 @@ def needed(greatest, found, tariff):
 def run(task, data, form="stream", message_words=8388608, keep_going=False, with_digest=False, count=False,
         only_canonical=False, **limits):
     """Returns the output of a command that takes a stream of any length, its standard error, and its exit status.
-    `task` is the command: list, limits, canonical, uniq or filter. `with_digest` is an option of list, `count` of uniq,
-    and `only_canonical` of filter. `limits` are the limits of the traversal."""
+    `task` is the command: `list`, `limits`, `canonical`, `uniq` or `filter`. `with_digest` is an option of `list`,
+    `count` is an option of `uniq`, and `only_canonical` is an option of `filter`. `limits` are the limits of the
+    traversal."""
     found, fault = messages(data, form, message_words)
     out, passed, greatest = [], [], {"message-words": (0, 0), "budget": (0, 0), "depth": (0, 0)}
     kept = set()

@@ -47,7 +47,7 @@ def stop(told, before=0):
 
 
 def refusal_of(call, *arguments, **options):
-    """Returns the exception that a call raises if it rejects its message, or None."""
+    """Makes a call. If the call rejects its message, returns the exception that it raises. Otherwise returns None."""
     try:
         call(*arguments, **options)
     except capn.Refusal as refusal:

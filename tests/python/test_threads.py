@@ -141,7 +141,7 @@ def stress(until):
 
 class TwoThreads(unittest.TestCase):
     def test_workers_that_share_a_stream(self):
-        # The test runs in another process, because a memory error would end the process.
+        # The test runs in another process, because a memory error would end the process in which it happens.
         ran = subprocess.run([sys.executable, "-B", __file__, "stress"], capture_output=True, text=True, timeout=500)
         self.assertEqual((ran.returncode, ran.stderr), (0, ""), ran.stdout)
         self.assertRegex(ran.stdout, r"^busy [1-9]\d*\n$")
