@@ -27,7 +27,7 @@ MEMORY = 2
 AT_ONCE = 40
 # The number of seconds that one run of a program may take, even on a busy machine.
 SECONDS = 1200
-# The greatest number of lines of errors that are printed for a crate. They are enough for ten cases.
+# At most this many lines of errors are printed for a crate. So many lines are enough for ten cases.
 MOST_LINES = 40
 
 # A job tests a crate. It has the name of the crate, a word that says what is tested, and a function that returns the
@@ -283,8 +283,8 @@ def providers(crate, name):
 
 def is_named(function, file):
     """Tests whether a test file uses an exported function. The file has to import the function, or the type of a
-    method, from a crate that exports it, and has to write the name once more. A name that comes after the name of a
-    module also counts."""
+    method, from a crate that exports it. The name also has to occur once more, outside of the import. A name that comes
+    after the name of a module counts, too."""
     if function.crate == "c":
         return not file.crate and function.name in file.calls
     item, _, method = function.name.partition("::")

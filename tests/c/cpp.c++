@@ -110,8 +110,8 @@ static void answers() {
     want("limits of words", capn::is_canonical_words(loose, {}) && thrown<capn::refusal>([&] {
                                 (void)capn::is_canonical_words(loose, few);
                             }) == "OverBudget at 0:0, paid 0, visits 1");
-    /* The deprecated overload of `is_canonical` without a form (stream, packed or bare) still works. It takes the bytes
-     * as a single segment without a segment table. */
+    /* One overload of `is_canonical` has no argument for the form (stream, packed or bare). It is deprecated, but it
+     * still works. It takes the bytes as a single segment without a segment table. */
 #if defined(__GNUC__)
 #pragma GCC diagnostic push
 #pragma GCC diagnostic ignored "-Wdeprecated-declarations"
@@ -469,8 +469,8 @@ static void readers() {
         const auto message = reader.next();
         want("nothing is lost", message && message->chars() == one && reader.next()->chars() == one && !reader.next());
     }
-    /* Reading more than 8 bytes from the pipe fails. The function of this reader returns the result of read(2) without
-     * a test for -1. */
+    /* The pipe has 8 bytes. After these, read(2) fails and returns -1. The function of this reader returns the result
+     * of read(2), and doesn't look whether it is -1. */
     int ends[2];
     want("a pipe", pipe(ends) == 0 && fcntl(ends[0], F_SETFL, O_NONBLOCK) == 0 && write(ends[1], one.data(), 8) == 8);
     capn::reader forgetful([&](std::byte *to, std::size_t most) {

@@ -63,9 +63,9 @@ static uint64_t content(const capn_entry *e) {
     }
 }
 
-/* Tests entry i of an index, and all entries below it. The content of an object must lie within the bytes. The entries
- * for the object's pointers must follow one another, and the object's span must end with the last of them. A null
- * pointer must have a null entry. */
+/* Tests entry i of an index, and all entries below it. The content of an object must lie within the bytes of the
+ * message. The entries for the object's pointers must follow one another, and the object's span must end with the last
+ * of them. A null pointer must have a null entry. */
 static void entry(const capn_entry *all, size_t count, size_t i, const uint8_t *bytes, size_t size) {
     const capn_entry *e = &all[i];
     need(e->span >= 1 && e->span <= count - i, "a span", bytes, size);

@@ -1,6 +1,6 @@
-/* Tests the version, the texts of the statuses, capn_first and capn_unpack_some. The last two calls read in chunks.
- * They get each prefix of a message or of packed bytes, with each size of buffer. The memory is aligned to 8 bytes or
- * not, and lies next to a page that can't be accessed. */
+/* Tests the version, the texts of the statuses, capn_first and capn_unpack_some. These two calls take their input in
+ * chunks. They get each prefix of a message or of packed bytes, with each size of buffer. The memory lies at aligned
+ * and at unaligned addresses, next to a page that can't be accessed. */
 #define TEST "pieces"
 #include "wanted.h"
 

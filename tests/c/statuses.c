@@ -58,8 +58,8 @@ static capn_report each_call(const char *what, uint32_t form, const void *bytes,
     return wanted == CAPN_CAPABILITY ? report : checked;
 }
 
-/* Makes each call on some words: without a segment table, after a table of one segment, and after a table of two
- * segments. The second of the two segments has no words. The messages with a table are also packed. */
+/* Makes each call on some words three times: without a segment table, with a table of one segment, and with a table of
+ * two segments. The second of the two segments has no words. The messages with a table are also packed. */
 static void walks(const char *what, const uint64_t *words, size_t count, const capn_limits *limits, uint32_t wanted,
                   uint32_t word) {
     uint8_t bytes[32], text[64];
@@ -103,7 +103,7 @@ static void walked(void) {
     walks("a null root", &null, 1, &usual, CAPN_OK, 0);
 }
 
-/* Tests the errors for packed bytes and for the segment table, and the number in the report of each error. */
+/* Tests the errors for packed bytes and for the segment table. Also tests the number in the report of each error. */
 static void read_as(const char *what, uint32_t form, const void *bytes, size_t size, const capn_limits *limits,
                     uint32_t wanted, uint64_t at) {
     capn_report told = each_call(what, form, bytes, size, limits, wanted);

@@ -13,7 +13,8 @@ DIFFERS = re.compile(
 
 
 def departure(value):
-    """Returns the value of the line `canonical` of `capn explain`, in the format of `ways answers`."""
+    """Takes the value of the line `canonical` that `capn explain` prints. Returns it in the format of `ways
+    answers`."""
     if value == "yes":
         return value
     differs = DIFFERS.fullmatch(value)

@@ -514,9 +514,9 @@ def styled(value, style):
 
 
 def each(data, text_of, form="stream", message_words=8388608, one=False, **limits):
-    """Returns the output for the messages of a stream, the line on standard error, and the exit status. The output
-    stops before the first rejected message. If `one` is true, the input has to be exactly one message. The function
-    `text_of` makes the output for one message. `limits` are the limits of the traversal."""
+    """Returns three results for the messages of a stream: the output, the line on standard error, and the exit status.
+    The output stops before the first rejected message. If `one` is true, the input has to be exactly one message. The
+    function `text_of` makes the output for one message. `limits` are the limits of the traversal."""
     if one:
         try:
             segments = only_message(data, form, message_words)
@@ -647,10 +647,10 @@ def needed(greatest, found, tariff):
 
 def run(task, data, form="stream", message_words=8388608, keep_going=False, with_digest=False, count=False,
         only_canonical=False, **limits):
-    """Returns the output of a command that takes a stream of any length, its standard error, and its exit status.
-    `task` is the command: `list`, `limits`, `canonical`, `uniq` or `filter`. `with_digest` is an option of `list`,
-    `count` is an option of `uniq`, and `only_canonical` is an option of `filter`. `limits` are the limits of the
-    traversal."""
+    """Returns three results of a command that takes a stream of any length: the output, the standard error, and the
+    exit status. `task` is the command: `list`, `limits`, `canonical`, `uniq` or `filter`. `with_digest` is an option of
+    `list`, `count` is an option of `uniq`, and `only_canonical` is an option of `filter`. `limits` are the limits of
+    the traversal."""
     found, fault = messages(data, form, message_words)
     out, passed, greatest = [], [], {"message-words": (0, 0), "budget": (0, 0), "depth": (0, 0)}
     kept = set()
@@ -743,8 +743,8 @@ def run_canonical(data, framed=False, keep_going=False, **options):
 
 
 def pick(data, form="stream", message_words=8388608, first=1, last=2**64 - 1):
-    """Returns the output of `pick` for the messages with the numbers `first` to `last`, the line on standard error, and
-    the exit status."""
+    """Computes `pick` for the messages with the numbers `first` to `last`. Returns the output, the line on standard
+    error, and the exit status."""
     if last < first:
         return b"", "", 0
     found, fault = messages(data, form, message_words)
@@ -795,8 +795,8 @@ def only_message(data, form, message_words):
 
 
 def canonical_of_one(data, form="stream", message_words=8388608, **limits):
-    """Returns the output of `canonical` for one message, the line on standard error, and the exit status. `limits` are
-    the limits of the traversal."""
+    """Computes `canonical` for one message. Returns the output, the line on standard error, and the exit status.
+    `limits` are the limits of the traversal."""
     try:
         walk = Walk(only_message(data, form, message_words), **limits)
         return canonical(without_capability(walk).value), "", 0

@@ -210,8 +210,8 @@ class AsExplained(unittest.TestCase):
                     name, bound = limit_of(option, value)
                     bounds[name] = bound
             told = said(bytes.fromhex(answer.split(", ")[1].replace("-", "")))
-            # Leaves out output that only the program has: errors of a segment table, of packed bytes and of a length,
-            # and the number of messages.
+            # Some lines come only from the program: errors of a segment table, errors of packed bytes, errors of a
+            # length, and the number of messages. Leaves them out.
             if "accepted" not in told and "way" not in told:
                 continue
             with self.subTest(case=case):

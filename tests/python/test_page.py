@@ -99,7 +99,7 @@ class Page(unittest.TestCase):
         for message, wrote in (
             (MESSAGE, "reading it costs 3 words and follows 1 pointers\nTrue\n"),
             (MESSAGE[:-8], "rejected: frame: Cut\nFalse\n"),
-            # The default limits accept this message. The limits in docs/PYTHON.md reject it.
+            # With the default limits, this message is accepted. With the limits in docs/PYTHON.md, it is rejected.
             (deep(41), "rejected: TooDeep at 0:32, paid 64, visits 33\nFalse\n"),
         ):
             asked = f"print(is_within_limits({message!r}))"

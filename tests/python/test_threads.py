@@ -174,8 +174,8 @@ class Handlers(unittest.TestCase):
     """Tests a signal handler that uses the stream that the interrupted call is reading."""
 
     def reads_in_between(self, found, call, wanted):
-        """Makes a call, and a second call while the first one calls C. The second call has to fail, since the stream is
-        in use."""
+        """Makes a call on a stream. When this call calls a function in C, makes a second call. The second call has to
+        fail, since the stream is in use."""
         wrong, got = [], []
 
         def watch(frame, event, _):
