@@ -181,7 +181,7 @@ USED = re.compile(r"^\s*(?:pub )?use ([\w:]+)(?:::(?:\{([^}]*)\}|(\*)))?;", re.M
 
 @functools.cache
 def product():
-    """Returns the names of the crates of the product, which begin with `capn`, in the order of crates.txt."""
+    """Returns the names of the crates of the product, in the order of crates.txt. These names begin with `capn`."""
     return tuple(it for it in proving.crates() if it.startswith("capn"))
 
 

@@ -808,7 +808,7 @@ static void canonical_lists() {
     want("a wider field has its default", field == 7 && narrow == (5 ^ 7));
 }
 
-/* Tests lists and readers as ranges of the C++ standard library. */
+/* Tests that lists and readers work as ranges of the C++ standard library. */
 static void ranges() {
     const std::string message = framed(words({2ull << 48, 5 | 0x23ull << 32, 5 | 0x17ull << 32, 0x0004000300020001,
                                               8 | 1ull << 32, 30, 40}));

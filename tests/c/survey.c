@@ -54,7 +54,7 @@ static void figures(const char *what, const uint64_t *words, uint32_t count, cap
             want("the same", memcmp(&same, &f, sizeof f) != 0, 0);
             want("its report", r.paid != f.paid || r.visits != f.visits || r.length || r.at || r.segment || r.word, 0);
         }
-        /* Moves the message down by 1 to 7 bytes, and calls capn_survey on it again. */
+        /* Moves the message to addresses that are 1 to 7 bytes lower, and calls capn_survey on it there. */
         for (size_t off = 1; off < 8; off++) {
             uint8_t *odd = memmove(in - off, in, size);
             capn_figures same = {0, 0, 0, 0, 0, 0, 0, 0};

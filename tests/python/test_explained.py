@@ -181,7 +181,7 @@ class AsExplained(unittest.TestCase):
             self.assertEqual(stop_of(refusal_of(capn.check_segments, [first, *between, last])), stop_of(refusal))
 
     def test_the_longest_way(self):
-        # The message has 256 nested lists of structs, which is the highest nesting limit that a caller may set. The
+        # The message has 256 nested lists of structs. 256 is the highest nesting limit that a caller may set. The
         # struct in the last list has a pointer to one more struct, which is too deep.
         words = []
         for _ in range(256):

@@ -137,7 +137,7 @@ class Shown(unittest.TestCase):
         self.assertRaises(ValueError, capn.show, message)
 
     def test_deep(self):
-        # The message has 256 nested lists of structs, which is the highest nesting limit that a caller may set.
+        # The message has 256 nested lists of structs. 256 is the highest nesting limit that a caller may set.
         words = []
         for level in range(256):
             words += [1 | 7 << 32 | 1 << 35, 1 << 2 | 1 << 48]
