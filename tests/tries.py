@@ -22,8 +22,8 @@ LOG = "build/tries.log"
 # The most memory that one run of `rt try` uses, in GiB. This includes the memory of its compiler and of the check of
 # names that runs beside it.
 MEMORY = 2
-# The number of test cases that one run of a program gets. If a case ends the program, the remaining cases of the run
-# aren't tried, so the number is small.
+# The number of test cases that one run of a program gets. The number is small, because the program may end at a case.
+# The remaining cases of the run are then not tried.
 AT_ONCE = 40
 # The number of seconds that one run of a program may take, even on a busy machine.
 SECONDS = 1200

@@ -12,7 +12,7 @@ namespace {
 
 double most = 1e9;
 bool failed = false;
-std::uint64_t sum = 0; /* the sum of all results, so that the compiler keeps the calls */
+std::uint64_t sum = 0; /* the sum of all results; it is used, so the compiler can't leave out the calls */
 
 template <class Call> double once(unsigned times, Call call) {
     const auto from = std::chrono::steady_clock::now();

@@ -1,7 +1,7 @@
-/* Passes arbitrary bytes to each call of capn.h, in each form (stream, packed and bare). The calls must agree with one
- * another, and must not read outside of the bytes. Each line of standard input ends with bytes in hexadecimal. The
- * program passes these bytes to each call. It also passes copies in which some bytes are changed. The changes come from
- * a fixed seed. */
+/* Passes arbitrary bytes to each call of capn.h, in each form (stream, packed and bare). The results of the calls must
+ * agree with one another. The calls must not read beyond the given bytes. Each line of standard input ends with bytes
+ * in hexadecimal. The program passes these bytes to each call. It also passes copies in which some bytes are changed.
+ * The changes come from a fixed seed. */
 
 /* A fuzzer calls the function LLVMFuzzerTestOneInput of this file. This command builds the fuzzer:
  *

@@ -324,7 +324,7 @@ static size_t call(uint32_t which, const uint8_t *bytes, size_t size, size_t eno
     case 12: {
         doing = "capn_canonical_with_scratch";
         const size_t lent = any(3) ? any(ROOM / 8) : any(3);
-        uint8_t *scratch = part(of_other, 8 * lent); /* the contents of this memory mean nothing after the call */
+        uint8_t *scratch = part(of_other, 8 * lent); /* the call may leave any bytes in this memory */
         out = filled(of_out, room);
         status = capn_canonical_with_scratch(form, bytes, size, limits, scratch, lent, out, room, r);
         need(status != CAPN_MEMORY, "no memory is asked for");

@@ -50,8 +50,8 @@ static void is_first(const char *what, const uint8_t *bytes, size_t size, capn_s
     want("no more", r.at | r.paid | r.visits | r.segment | r.word, 0);
 }
 
-/* Takes messages of one to five segments, and passes each prefix of a message to capn_first. The address of the prefix
- * is aligned to 8 bytes or not. For the shortest prefixes, the call reports that it needs 8 bytes. For longer prefixes,
+/* Takes messages of one to five segments, and passes each prefix of a message to capn_first. The prefix lies at aligned
+ * and at unaligned addresses. For the shortest prefixes, the call reports that it needs 8 bytes. For longer prefixes,
  * it reports the length of the segment table, and then the length of the message. If the message is complete, with or
  * without bytes after it, the call reports the message's length. */
 static void beginnings(void) {

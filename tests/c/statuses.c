@@ -144,7 +144,7 @@ static void reading(void) {
 static void too_long(void) {
     const capn_limits one = limits_of(1, 1, 1, CAPN_STRICT);
     uint8_t zeros[18];
-    for (int i = 0; i < 18; i++) zeros[i] = i % 2 ? 255 : 0; /* 9 runs of 256 zero words, packed */
+    for (int i = 0; i < 18; i++) zeros[i] = i % 2 ? 255 : 0; /* these packed bytes unpack to 9 runs of 256 zero words */
     read_as("2,304 packed words", CAPN_PACKED, zeros, 18, &one, CAPN_PACKED_TOO_LONG, 16);
     size_t words = (1u << 28) + 2;
     void *bytes = mmap(NULL, 8 * words, PROT_NONE, MAP_PRIVATE | MAP_ANONYMOUS | MAP_NORESERVE, -1, 0);

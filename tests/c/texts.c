@@ -19,7 +19,7 @@ static void is(capn_status status, const capn_report *report, const char *wanted
     const size_t length = strlen(wanted);
     if (capn_refusal_text(status, report, NULL, 0) != length) broken("another length without room", wanted);
     for (size_t room = 1; room <= length + 2; room++) {
-        char *out = malloc(room); /* exactly the size of the buffer, so that a sanitizer detects a write past the end */
+        char *out = malloc(room); /* a block of exactly this size, so that a sanitizer detects a write past its end */
         memset(out, 'x', room);
         if (capn_refusal_text(status, report, out, room) != length) broken("another length", wanted);
         const size_t written = length < room ? length : room - 1;

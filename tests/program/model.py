@@ -501,8 +501,8 @@ def stands(value, way):
 
 
 def styled(value, style):
-    """Returns the output of `show` for a part of a message, in the style plain, text, json or both. `value` is None if
-    the message doesn't have the part. In the styles plain and text, the output ends with the line `end`."""
+    """Returns the output of `show` for a part of a message, in the style `plain`, `text`, `json` or `both`. `value` is
+    None if the message doesn't have the part. In the styles `plain` and `text`, the output ends with the line `end`."""
     if style in ("json", "both"):
         if value is None:
             return "\n"
