@@ -99,7 +99,7 @@ static void held(const uint8_t *frame, size_t size, const capn_limits *limits) {
     for (size_t i = 0; i < made; i++) free(blocks[i]);
 }
 
-/* Makes the calls on segments that no stream can have, and on so many segments that their stream would be long. */
+/* Makes the calls on segments that no stream can have, and on so many segments that a stream of them would be long. */
 static void borders(void) {
     static const uint8_t words[8 * 1024];
     static capn_segment segments[MOST + 1];

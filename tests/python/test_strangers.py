@@ -237,7 +237,8 @@ class Schemas(unittest.TestCase):
                 self.assertRaises(capn.Mismatch, wrong)
 
     def test_texts_and_data(self):
-        # An exception that the sender causes is always a `Mismatch`. It may have other base classes, too.
+        # An exception that the sender causes is always a `Mismatch`. Besides `Mismatch`, this exception may have other
+        # base classes.
         values = [None, ("struct", [1], [None]), ("list", 0, 3, b""), ("list", 1, 3, bytes(8)), text("abc"),
                   ("list", 3, 1, bytes(8)), ("pointers", [None]), ("rows", 1, 1, [([5], [None])]),
                   ("list", 2, 3, b"abc" + bytes(5)), ("list", 2, 0, b""), ("list", 2, 3, b"\xff\xfe\0" + bytes(5))]
