@@ -1,9 +1,9 @@
 /* Tests the calls of capn_fields.h. The arguments say what the program does:
  *   - `fields` tests index entries that are written by hand
- *   - `fields old` and `fields new` print each message of a stream of fields.capnp, as fields.c++ does; they read the
- *     messages as the older and as the newer type of the schema
- *   - `fields any` reads each pointer of each message of a stream as every kind of object, and counts the readings that
- *     succeed
+ *   - `fields old` and `fields new` print the messages of a stream in the format of fields.c++; the schema of the
+ *     messages is fields.capnp, and they are read as its older and as its newer type
+ *   - `fields any` reads each pointer in the messages of a stream as every kind of object, and counts how often this
+ *     succeeds
  *   - `fields lines` reads the messages of mixed.py as every kind of object, and prints a line for each pointer */
 
 /* The lines of `fields lines`. For a rejected message, the line is `rejected: ` and the text of the error. For an

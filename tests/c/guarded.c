@@ -1,8 +1,8 @@
 /* Makes many calls of all functions of capn.h, with valid and hostile inputs and with buffers of each size. The memory
  * that is passed to a call lies before or after a page that can't be accessed. The input is read-only. The seed is
  * fixed, so each run makes the same calls. The argument is the number of calls. Each line of standard input ends with
- * bytes in hexadecimal, which are inputs too. The program prints a line with a hash of everything that the calls
- * returned and wrote. Two builds of the library give the same hash. */
+ * bytes in hexadecimal. These bytes are also inputs of the calls. The program prints a line with a hash of everything
+ * that the calls returned and wrote. Two builds of the library give the same hash. */
 #define TEST "guarded"
 #include "wanted.h"
 #include <signal.h>
