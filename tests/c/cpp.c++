@@ -202,8 +202,8 @@ static void pieces() {
     want("too long for bytes", capn::segments(long_one).bytes_in_all() > 8ull << 28);
 }
 
-/* Writes canonical bytes into a buffer, with scratch memory from the caller. Some messages have few segments, some are
- * packed, and some have many segments. */
+/* Writes canonical bytes into a buffer. The caller also passes scratch memory. Some messages have few segments, some
+ * are packed, and some have many segments. */
 static void lent() {
     using capn::form;
     const std::string message = framed(words({1ull << 32, 5})), wanted(capn::bytes(capn::canonical(message)).chars());

@@ -561,7 +561,7 @@ def run_hash(data, **options):
 
 
 def without_capability(walk):
-    """Returns the given traversal of a message. Raises an error if the message has a capability."""
+    """Takes the traversal of a message. Returns it unchanged, or raises an error if the message has a capability."""
     if walk.capability is not None:
         raise Refused(f"capability {walk.capability}")
     return walk
