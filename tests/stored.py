@@ -69,7 +69,8 @@ def all_cases():
 
 
 def asked(cases, before=""):
-    """Returns the input with which a program answers the given cases. The text `before` stands before each call."""
+    """Returns the input that makes a program answer the given cases. In this input, the text `before` stands before
+    each call."""
     return "".join(f"{case.name}\n{before}{case.call}\n" for case in cases)
 
 

@@ -22,19 +22,19 @@ LOG = "build/tries.log"
 # The most memory that one run of `rt try` uses, in GiB. This includes the memory of its compiler and of the check of
 # names that runs beside it.
 MEMORY = 2
-# The number of test cases that one run of a program gets. If a case ends the program, the remaining cases of the run
-# aren't tried, so the number is small.
+# The number of test cases that one run of a program gets. The number is small, because the program may end at a case.
+# The remaining cases of the run are then not tried.
 AT_ONCE = 40
 # The number of seconds that one run of a program may take, even on a busy machine.
 SECONDS = 1200
-# The greatest number of lines of errors that are printed for a crate. They are enough for ten cases.
+# At most this many lines of errors are printed for a crate. So many lines are enough for ten cases.
 MOST_LINES = 40
 
 # A job tests a crate. It has the name of the crate, a word that says what is tested, and a function that returns the
 # errors and the output.
 Job = collections.namedtuple("Job", "crate what run")
-# The code of a test file: its crate, its imports from the product, and the words of the rest. `calls` are the words
-# before a parenthesis, `dotted` those of them after a dot, and `paths` the pairs around `::`.
+# The code of a test file: its crate, its imports from the product, and the words of the rest. `calls` has the words
+# before a parenthesis. `dotted` has those of them that come after a dot. `paths` has the pairs of words around `::`.
 Code = collections.namedtuple("Code", "crate imports words calls dotted paths")
 # An exported function, and the crate that exports it. For the calls of c/capn.h, the name of the crate is `c`.
 Function = collections.namedtuple("Function", "crate name")
@@ -181,7 +181,7 @@ USED = re.compile(r"^\s*(?:pub )?use ([\w:]+)(?:::(?:\{([^}]*)\}|(\*)))?;", re.M
 
 @functools.cache
 def product():
-    """Returns the names of the crates of the product, which begin with `capn`, in the order of crates.txt."""
+    """Returns the names of the crates of the product, in the order of crates.txt. These names begin with `capn`."""
     return tuple(it for it in proving.crates() if it.startswith("capn"))
 
 
@@ -220,8 +220,8 @@ def methods(crate, types):
 
 def exported():
     """Yields each function that a crate of the product (capn*) exports, each public function of a type that it exports,
-    and each call of c/capn.h. Leaves out what the crate only exports again from another crate of the product, and the
-    laws."""
+    and each call of c/capn.h. Leaves out the laws, and what the crate only exports again from another crate of the
+    product."""
     for crate in product():
         own = [name for path, name in items(crate) if path.split("::")[0] not in product()]
         yield from (Function(crate, name) for name in dict.fromkeys(own) if name[0].islower())
@@ -283,8 +283,8 @@ def providers(crate, name):
 
 def is_named(function, file):
     """Tests whether a test file uses an exported function. The file has to import the function, or the type of a
-    method, from a crate that exports it, and has to write the name once more. A name that comes after the name of a
-    module also counts."""
+    method, from a crate that exports it. The name also has to occur once more, outside of the import. A name that comes
+    after the name of a module counts, too."""
     if function.crate == "c":
         return not file.crate and function.name in file.calls
     item, _, method = function.name.partition("::")
@@ -360,8 +360,8 @@ def nearest(crate, names, tried):
 
 
 def calls_reaching(crate, names):
-    """Finds the first program whose test cases test a crate. Returns the program, and the calls of these cases. They
-    are the calls whose modules name the crate. If there are none, they are the calls whose modules use the crate
+    """Finds the first program that has test cases for a crate. Returns the program, and the calls of these cases. They
+    are the calls whose modules name the crate. If no module names it, they are the calls whose modules use the crate
     indirectly."""
     for one in stored.CRATES:
         found = dict(crates_of_calls(one))
@@ -375,7 +375,7 @@ def calls_reaching(crate, names):
 
 
 def reaching(crate):
-    """Returns what tests a crate: the crates of tests that are the fewest steps away from it, a program with test
-    cases, and the calls of these cases."""
+    """Returns what has to run so that a crate is tested: the crates of tests that are the fewest steps away from the
+    crate, a program with test cases, and the calls of these cases."""
     names = proving.crates()
     return nearest(crate, names, [it for it in names if tests_of(it)]), *calls_reaching(crate, names)

@@ -1,12 +1,12 @@
-/* Tests capn_annotate on hand-written messages whose lines are known. A message is aligned to 8 bytes or not, and lies
- * next to pages that can't be accessed. The array of lines has each length from 0 to more than enough. A bare message
- * is also tested with a segment table, and packed. */
+/* Tests capn_annotate on hand-written messages whose lines are known. Each message is tried at aligned and at unaligned
+ * addresses, next to pages that can't be accessed. The array for the lines is tried with each length from 0 to more
+ * than enough. A message without a segment table is tested again with a table, unpacked and packed. */
 #define TEST "annotate"
 #include "wanted.h"
 
 enum { MOST = 8 };
-/* A line that capn_annotate has to return. Its words belong to one object. The pointer to this object is word `slot` %
- * 256 of segment `slot` / 256. */
+/* A line that capn_annotate has to return. The words of the line belong to one object. The pointer to this object is
+ * word `slot` % 256 of segment `slot` / 256. */
 #define LINE(offset, segment, word, words, times, slot, cut, not_zero, kind, flags) \
     {offset, segment, word, words, times, (slot) >> 8, (slot) & 255, cut, not_zero, CAPN_LINE_##kind, flags}
 
@@ -47,7 +47,8 @@ static const struct {
      {LINE(0, 0, 0, 1, 1, 0, 0, 1, POINTER, 0), LINE(8, 0, 1, 1, 1, 0, 0, 1, POINTER, 0)}},
 };
 
-/* Makes the call with room for `room` lines. They lie at the end of a block, before a page that can't be accessed. */
+/* Calls capn_annotate with an array of `room` lines. The array lies at the end of a block, before a page that can't be
+ * accessed. */
 static void with_room(const char *what, uint32_t form, const uint8_t *in, size_t size, const capn_line *wanted,
                       size_t count, size_t room, uint8_t *pages) {
     capn_line got[MOST + 3];
@@ -73,8 +74,8 @@ static void with_room(const char *what, uint32_t form, const uint8_t *in, size_t
                    lines[i].flags);
 }
 
-/* Tests a message at each alignment. A bare message is also tested after a segment table, which moves each offset by
- * 8. */
+/* Tests a message at each alignment. A bare message is also tested with a segment table in front of it. The table adds
+ * 8 to each offset. */
 static void each_form(size_t m, uint8_t **pages) {
     size_t size;
     const uint32_t form = messages[m].form;

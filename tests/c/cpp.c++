@@ -91,8 +91,9 @@ static void answers() {
     want("packed", capn::canonical(packed, capn::form::packed) == capn::canonical(one));
     want("canonical words", capn::is_canonical_words(capn::canonical(one)) && !capn::is_canonical_words(one.substr(8)));
     /* The segment table of this message can be read as a pointer to a struct. The words of the struct are those of the
-     * segment, and the last of them isn't zero. So the bytes of the whole message are canonical words. The message
-     * itself isn't canonical, since its struct has a zero word before a pointer. */
+     * segment, and the last of them isn't zero. So the bytes of the whole message are canonical if they are read
+     * without a segment table. The message itself isn't canonical, since its root struct has a zero word before a
+     * pointer. */
     using capn::form;
     const capn::limits few(99, 2, 9);
     const std::string loose = framed(words({2ull << 32 | 1ull << 48, 5, 0, 1 | 0x22ull << 32, 0x636261}));
@@ -109,8 +110,8 @@ static void answers() {
     want("limits of words", capn::is_canonical_words(loose, {}) && thrown<capn::refusal>([&] {
                                 (void)capn::is_canonical_words(loose, few);
                             }) == "OverBudget at 0:0, paid 0, visits 1");
-    /* The deprecated overload of `is_canonical` without a form (stream, packed or bare) still works. It takes the bytes
-     * as a single segment without a segment table. */
+    /* One overload of `is_canonical` has no argument for the form (stream, packed or bare). It is deprecated, but it
+     * still works. It takes the bytes as a single segment without a segment table. */
 #if defined(__GNUC__)
 #pragma GCC diagnostic push
 #pragma GCC diagnostic ignored "-Wdeprecated-declarations"
@@ -127,7 +128,7 @@ static void answers() {
         const std::string message = written == form::bare ? capability.substr(8) : capability;
         want("a capability", thrown<capn::refusal>([&] { capn::is_canonical(message, written); }) == "capability 7");
     }
-    /* Three pointers refer to one object, so the canonical bytes have three copies of the object. They are longer than
+    /* Three pointers refer to one object. So the canonical bytes have three copies of the object, and are longer than
      * the message. */
     const std::string shared = framed(words({3ull << 48, 8 | 1ull << 32, 4 | 1ull << 32, 1ull << 32, 7}));
     want("a longer answer", capn::canonical(shared).size() == 56 && shared.size() == 48);
@@ -195,14 +196,14 @@ static void pieces() {
     };
     want("the first one", which(loop, none) == "TooDeep0");
     want("the second one", which(two, loop) == "TooDeep1");
-    /* If the lengths of the segments are over the limit, the segments are rejected before they are copied. */
+    /* If the segments together are longer than the limit, the call rejects them before it copies them. */
     const capn_segment long_one[] = {{rest.data(), std::size_t{1} << 60}, {rest.data(), std::size_t{1} << 60}};
     want("too long", thrown<capn::refusal>([&] { capn::show(long_one); }).rfind("frame: TooManyWords", 0) == 0);
     want("too long for bytes", capn::segments(long_one).bytes_in_all() > 8ull << 28);
 }
 
-/* Writes canonical bytes into a buffer, with scratch memory from the caller. Some messages have few segments, some are
- * packed, and some have many segments. */
+/* Writes canonical bytes into a buffer. The caller also passes scratch memory. Some messages have few segments, some
+ * are packed, and some have many segments. */
 static void lent() {
     using capn::form;
     const std::string message = framed(words({1ull << 32, 5})), wanted(capn::bytes(capn::canonical(message)).chars());
@@ -296,7 +297,7 @@ static void ways() {
     want("none of a refused one", thrown<capn::refusal>([] { capn::departure(cut); }) == "frame: Cut");
 }
 
-/* Returns a line as text. The kind is written as `capn annotate` writes it. */
+/* Returns a line as text. The text names the kind of the line as `capn annotate` does. */
 static std::string told(const capn::line &line) {
     static const char *const kinds[] = {"pointer", "null", "pad", "tag", "data", "list", "slack", "unreached"};
     const auto of = [](capn::place at) { return std::to_string(at.segment) + ":" + std::to_string(at.word); };
@@ -319,7 +320,8 @@ static void lines() {
     want("the lines of a text", told(capn::annotate(invoice)) == "8 0:0 1 1 pointer\n16 0:1 1 1 data of 0:0\n"
                                                                  "24 0:2 1 1 pointer of 0:0\n"
                                                                  "32 0:3 1 1 list of 0:2\n");
-    /* A writer set a text twice. The message still has the words of the first text, but no pointer leads to them. */
+    /* The writer of this message has set a text twice. The message still has the words of the first text, but no
+     * pointer leads to them. */
     const std::string twice = words({1ull << 48, 5 | 50ull << 32, 0x616441, 0x6563617247});
     want("what nothing reaches", told(capn::annotate(twice, form::bare)) == "0 0:0 1 1 pointer\n"
                                                                             "8 0:1 1 1 pointer of 0:0\n"
@@ -341,7 +343,8 @@ static void lines() {
     const std::string padded = words({1 | 2ull << 32 | 17ull << 35, 1, 0, 9ull << 56});
     want("padding", told(capn::annotate(padded, form::bare))
                         == "0 0:0 1 1 pointer\n8 0:1 3 1 list of 0:0 not zero 2 padding\n");
-    /* capn::annotate first tries a small array of lines. This message has more lines, since each word has a line. */
+    /* capn::annotate first tries a small array of lines. This message has more lines than that array, since each word
+     * has a line of its own. */
     std::string wide = words({5000ull << 48});
     for (int i = 0; i < 5000; i++) wide += words({0xfffffffc});
     const auto many = capn::annotate(wide, form::bare);
@@ -466,8 +469,8 @@ static void readers() {
         const auto message = reader.next();
         want("nothing is lost", message && message->chars() == one && reader.next()->chars() == one && !reader.next());
     }
-    /* Reading more than 8 bytes from the pipe fails. The function of this reader returns the result of read(2) without
-     * a test for -1. */
+    /* The pipe has 8 bytes. After these, read(2) fails and returns -1. The function of this reader returns the result
+     * of read(2), and doesn't look whether it is -1. */
     int ends[2];
     want("a pipe", pipe(ends) == 0 && fcntl(ends[0], F_SETFL, O_NONBLOCK) == 0 && write(ends[1], one.data(), 8) == 8);
     capn::reader forgetful([&](std::byte *to, std::size_t most) {
@@ -805,7 +808,7 @@ static void canonical_lists() {
     want("a wider field has its default", field == 7 && narrow == (5 ^ 7));
 }
 
-/* Tests lists and readers as ranges of the C++ standard library. */
+/* Tests that lists and readers work as ranges of the C++ standard library. */
 static void ranges() {
     const std::string message = framed(words({2ull << 48, 5 | 0x23ull << 32, 5 | 0x17ull << 32, 0x0004000300020001,
                                               8 | 1ull << 32, 30, 40}));

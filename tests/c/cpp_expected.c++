@@ -126,8 +126,9 @@ static void fields() {
     want("a capability", *root->slot(2).try_capability() == 7u && !root->slot(1).try_capability());
 }
 
-/* Reads a stream that has a rejected message. The function that returns the bytes to a reader returns a capn::expected
- * for the first reader, and a std::optional for the packed reader. */
+/* Reads a stream that has a rejected message, with two readers. Each reader calls a function that returns the next
+ * bytes. The function of the first reader returns a capn::expected. The function of the packed reader returns a
+ * std::optional. */
 static void streams() {
     const std::string all = one + hostile + tight + cut;
     std::size_t at = 0;

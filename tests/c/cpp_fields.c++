@@ -184,8 +184,8 @@ void show_lines(capn::value at) {
         }
 }
 
-// Prints a line for each pointer of the messages that generated.py wrote. Each message comes after its length. The
-// message is copied to memory of exactly its length, so that a sanitizer detects a read past the end.
+// Prints a line for each pointer of the messages that generated.py wrote. The length of each message comes before the
+// message. The message is copied to memory of exactly its length, so that a sanitizer detects a read past the end.
 void show_mixed(const std::string &all) {
     for (std::size_t from = 0; from + 4 <= all.size();) {
         std::uint32_t size;

@@ -1,10 +1,10 @@
 // The programs in this file test that a wrong use of capn.hpp doesn't compile, and that right programs compile.
 //
-// Each number of the macro CASE adds a wrong program. It would read bytes after the object that owns them is destroyed,
-// or it takes one number for another, such as a number of words for a number of bytes. A compiler has to reject this
+// Each value of the macro CASE adds one wrong program. This program would read bytes after the object that owns them is
+// destroyed, or it confuses two numbers, such as a number of words and a number of bytes. A compiler has to reject this
 // program. The line of a case begins with a word and a colon, and the compiler's error has to contain this word. Only
-// clang warns about the cases of `dangling`. Without CASE, the file has only the right programs. `tests/c/languages`
-// compiles each case.
+// clang warns about the cases whose word is `dangling`. Without CASE, the file has only the right programs.
+// `tests/c/languages` compiles each case.
 #include "capn.hpp"
 #ifdef WITH_KJ
 #include "capn_kj.hpp"
@@ -18,7 +18,7 @@
 
 std::vector<std::byte> make_vector();
 std::string make_string();
-/* A packet stores its bytes in the object itself, so a copy of a packet has bytes of its own. */
+/* An object of this type has its bytes inside itself, so a copy of the object has bytes of its own. */
 struct packet {
     std::byte held[64];
     std::size_t length;

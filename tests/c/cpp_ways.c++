@@ -1,4 +1,4 @@
-// Prints the paths to errors and the first differences from the canonical form that capn.hpp reports.
+// Prints what capn.hpp reports about a message: the path to an error, or the first difference from the canonical form.
 //
 // The program reads calls from standard input, and answers each call that has limits. The answers have the format of
 // `ways answers` (see ways.c).

@@ -47,7 +47,8 @@ CALL(refusal_way, INPUT, g->out.way, WAY, g->report)
 CALL(departure, INPUT, &g->out.departs.departed, g->out.departs.way, WAY, g->report)
 CALL(annotate, INPUT, g->out.lines, LINES, g->report)
 
-/* One function compares a message with its first half. The other function compares the message with itself. */
+/* The first of these two functions compares a message with its own first half. The second one compares the message with
+ * itself. */
 static capn_status try_same(struct given *g) {
     return capn_same(g->form, g->bytes, g->size, g->bytes, g->size / 2, g->limits, g->which, g->report);
 }

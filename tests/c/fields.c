@@ -1,16 +1,17 @@
 /* Tests the calls of capn_fields.h. The arguments say what the program does:
  *   - `fields` tests index entries that are written by hand
- *   - `fields old` and `fields new` print each message of a stream of fields.capnp, as fields.c++ does; they read the
- *     messages as the older and as the newer type of the schema
- *   - `fields any` reads each pointer of each message of a stream as every kind of object, and counts the readings that
- *     succeed
+ *   - `fields old` and `fields new` print the messages of a stream in the format of fields.c++; the schema of the
+ *     messages is fields.capnp, and they are read as its older and as its newer type
+ *   - `fields any` reads each pointer in the messages of a stream as every kind of object, and counts how often this
+ *     succeeds
  *   - `fields lines` reads the messages of generated.py as every kind of object, and prints a line for each pointer */
 
 /* The lines of `fields lines`. For a rejected message, the line is `rejected: ` and the text of the error. For an
- * accepted message, there is a line for each pointer, in preorder. The line has the word of the pointer's kind, and a
- * part for each of eleven readings: as a struct; as a text; as data; as a list of elements without size; as a list of
- * numbers of 1, 8, 16, 32 and 64 bits; as a list of pointers; and as a list of structs. A part is `-` if the reading
- * fails. Otherwise the part is a hash in hexadecimal: FNV-1a over 64-bit numbers. These are the numbers:
+ * accepted message, there is a line for each pointer, in preorder. The line begins with a word for the pointer's kind.
+ * The object of the pointer is then read in eleven ways: as a struct; as a text; as data; as a list of elements without
+ * size; as a list of numbers of 1, 8, 16, 32 and 64 bits; as a list of pointers; and as a list of structs. For each
+ * way, the line has a part. The part is `-` if the object can't be read in this way. Otherwise the part is a hash in
+ * hexadecimal: FNV-1a over 64-bit numbers. These are the numbers:
  *   - for a struct, the numbers of a struct (see the next comment)
  *   - for a text and for data, the length and the bytes; a null pointer has the default text `none`
  *   - for a list of elements without size, the length
@@ -159,7 +160,8 @@ static uint64_t read_record(const capn_record *record) {
     return sum;
 }
 
-static volatile uint64_t kept; /* results go here, so that the compiler keeps the reads */
+/* The results are stored here, so that the compiler can't leave out the code that reads. */
+static volatile uint64_t kept;
 
 /* Reads an index entry as a struct, as a text, as data, and as each kind of list. Returns how many of these readings
  * succeed. */
@@ -295,7 +297,8 @@ static uint8_t *alone(const uint8_t *from, size_t size) {
     return message;
 }
 
-/* Prints a line for each pointer of the messages that generated.py wrote. Each message comes after its length. */
+/* Prints a line for each pointer of the messages that generated.py wrote. The length of each message comes before the
+ * message. */
 static int show_lines(void) {
     size_t have;
     uint8_t *all = all_of_input(&have);
@@ -452,7 +455,7 @@ static void by_hand(void) {
         }
     want("far beyond", (int64_t)capn_field(&record, UINT32_MAX, 64, 9), 9);
 
-    /* Tests the number of index entries that a message needs. A smaller array isn't enough. */
+    /* Tests the number of index entries that a message needs. An array with fewer entries isn't enough. */
     static const uint8_t nested[] = {0, 0, 0, 0, 4, 0, 0, 0, 0, 0, 0, 0, 0, 0, 2, 0, 4, 0, 0, 0, 0, 0, 1, 0,
                                      0, 0, 0, 0, 0, 0, 0, 0, 0, 0, 0, 0, 0, 0, 0, 0};
     const capn_limits usual = CAPN_USUAL_LIMITS;

@@ -1,6 +1,7 @@
-/* Passes arbitrary bytes to each call of capn.h, in each form (stream, packed and bare). The calls must agree with one
- * another, and must not read outside of the bytes. Each line of standard input ends with bytes in hexadecimal. The
- * program passes these bytes, and copies of them with some bytes changed. The changes come from a fixed seed. */
+/* Passes arbitrary bytes to each call of capn.h, in each form (stream, packed and bare). The results of the calls must
+ * agree with one another. The calls must not read beyond the given bytes. Each line of standard input ends with bytes
+ * in hexadecimal. The program passes these bytes to each call. It also passes copies in which some bytes are changed.
+ * The changes come from a fixed seed. */
 
 /* A fuzzer calls the function LLVMFuzzerTestOneInput of this file. This command builds the fuzzer:
  *
@@ -47,7 +48,7 @@ static void accepted(uint32_t form, const uint8_t *bytes, size_t size, const cap
     free(again);
 }
 
-/* Returns the number of bytes of the content of an object, from the object's index entry. */
+/* Computes the size of an object's content from the object's index entry. Returns the size in bytes. */
 static uint64_t content(const capn_entry *e) {
     const uint64_t object = 8 * ((uint64_t)e->words + e->slots);
     switch (e->kind) {
@@ -62,9 +63,9 @@ static uint64_t content(const capn_entry *e) {
     }
 }
 
-/* Tests entry i of an index, and all entries below it. The content of an object must lie within the bytes. The entries
- * for the object's pointers must follow one another, and the object's span must end with the last of them. A null
- * pointer must have a null entry. */
+/* Tests entry i of an index, and all entries below it. The content of an object must lie within the bytes of the
+ * message. The entries for the object's pointers must follow one another, and the object's span must end with the last
+ * of them. A null pointer must have a null entry. */
 static void entry(const capn_entry *all, size_t count, size_t i, const uint8_t *bytes, size_t size) {
     const capn_entry *e = &all[i];
     need(e->span >= 1 && e->span <= count - i, "a span", bytes, size);
@@ -210,7 +211,7 @@ static void message(uint32_t form, const uint8_t *bytes, size_t size) {
     need(!memcmp(&report, &hashed, sizeof report), "the reports of a refusal", bytes, size);
 }
 
-/* Unpacks arbitrary bytes as packed bytes. Packs the result, and unpacks it again. */
+/* Takes arbitrary bytes as packed bytes, and unpacks them. Packs the result, and unpacks it again. */
 static void packing(const uint8_t *bytes, size_t size) {
     static uint8_t words[1 << 16], again[1 << 16], text[10 * (1 << 13)];
     capn_report report, other;

@@ -1,8 +1,8 @@
 /* Makes many calls of all functions of capn.h, with valid and hostile inputs and with buffers of each size. The memory
  * that is passed to a call lies before or after a page that can't be accessed. The input is read-only. The seed is
  * fixed, so each run makes the same calls. The argument is the number of calls. Each line of standard input ends with
- * bytes in hexadecimal, which are inputs too. The program prints a line with a hash of everything that the calls
- * returned and wrote. Two builds of the library give the same hash. */
+ * bytes in hexadecimal. These bytes are also inputs of the calls. The program prints a line with a hash of everything
+ * that the calls returned and wrote. Two builds of the library give the same hash. */
 #define TEST "guarded"
 #include "wanted.h"
 #include <signal.h>
@@ -324,7 +324,7 @@ static size_t call(uint32_t which, const uint8_t *bytes, size_t size, size_t eno
     case 12: {
         doing = "capn_canonical_with_scratch";
         const size_t lent = any(3) ? any(ROOM / 8) : any(3);
-        uint8_t *scratch = part(of_other, 8 * lent); /* the contents of this memory mean nothing after the call */
+        uint8_t *scratch = part(of_other, 8 * lent); /* the call may leave any bytes in this memory */
         out = filled(of_out, room);
         status = capn_canonical_with_scratch(form, bytes, size, limits, scratch, lent, out, room, r);
         need(status != CAPN_MEMORY, "no memory is asked for");

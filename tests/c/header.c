@@ -1,4 +1,4 @@
-/* Compiles capn.h as C or C++, and makes each call of capn.h once, on a null root. */
+/* Compiles capn.h as C or C++, and makes each call of capn.h once. The message of these calls has a null root. */
 #include "capn.h"
 
 int main(void) {

@@ -98,8 +98,8 @@ static void anywhere(void) {
         }
 }
 
-/* A message may have 1 to 4,096 segments. The calls accept each of these numbers, in the forms stream and packed. The
- * first segment has a null root, and the others have no words. */
+/* A message may have 1 to 4,096 segments. The calls accept each of these numbers of segments, in the forms `stream` and
+ * `packed`. The first segment has a null root, and the others have no words. */
 static void segments(void) {
     static uint8_t frame[4 * 4097 + 4 + 8], text[2 * sizeof frame], digest[32];
     capn_report r;
@@ -266,8 +266,8 @@ static void hostile(void) {
     want("itself, lower budget", capn_canonical(CAPN_BARE, self, 8, &low, NULL, 0, &r), CAPN_OVER_BUDGET);
     want("paid", r.paid, 100);
     for (int i = 0; i < 32; i++) want("a digest that was refused", digest[i], 0xAA);
-    /* Passes each prefix of a message, unchanged and with one byte changed. No call may read a byte past the end of the
-     * prefix. */
+    /* Makes calls on each prefix of a message. The prefix is unchanged, or one of its bytes is changed. No call may
+     * read a byte past the end of the prefix. */
     for (size_t size = 0; size <= 32; size++)
         for (int bit = 0; bit < 256; bit++) {
             uint8_t *bytes = malloc(size ? size : 1), out[8];

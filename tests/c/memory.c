@@ -1,6 +1,6 @@
 /* Tests each call of capn.h when one of its allocations fails: the first, the second, and so on. The call has to return
  * CAPN_MEMORY, leave the buffer unchanged, set the report to 0, and free everything. Then every allocation fails, and
- * the test makes the calls that need no allocation. These calls have to return the same as with memory. */
+ * the test makes the calls that need no allocation. These calls have to return the same as when allocations succeed. */
 #include "refusing.h"
 #include "usual.h"
 #include <stdio.h>
@@ -133,9 +133,9 @@ static void each(const char *name, call *make, const input *in, int least) {
     printf("memory: %s: refused %d times\n", name, count);
 }
 
-/* Tests a call with memory, and then while every allocation fails. With memory, the call has to allocate `growths`
- * times and return `wanted`. Without memory, it has to return CAPN_MEMORY if `growths` isn't 0. If `growths` is 0, it
- * has to return `wanted` again. */
+/* Makes a call twice. In the first run allocations succeed, and the call has to allocate `growths` times and return
+ * `wanted`. In the second run every allocation fails, and the call has to return CAPN_MEMORY if `growths` isn't 0. If
+ * `growths` is 0, the call has to return `wanted` again. */
 static void wants(const char *name, call *make, const input *in, long growths, uint32_t wanted) {
     capn_report ample, short_of;
     left = -1;
@@ -187,7 +187,7 @@ static void in_turn(void) {
 }
 
 /* Tests messages of any depth. A message without a segment table, or with at most 64 segments, needs no memory. A
- * message of 65 segments needs one allocation, for the ends of its segments. */
+ * message of 65 segments needs one allocation, which stores where each segment ends. */
 static void at_depth(uint32_t most, size_t depth, uint32_t wanted) {
     const capn_limits limits = limits_of(1u << 20, 1u << 20, most, CAPN_STRICT);
     const uint32_t room = wanted == CAPN_OK ? CAPN_NO_ROOM : wanted;

@@ -1,6 +1,6 @@
-/* Tests the version, the texts of the statuses, capn_first and capn_unpack_some. The last two calls read in chunks.
- * They get each prefix of a message or of packed bytes, with each size of buffer. The memory is aligned to 8 bytes or
- * not, and lies next to a page that can't be accessed. */
+/* Tests the version, the texts of the statuses, capn_first and capn_unpack_some. These two calls take their input in
+ * chunks. They get each prefix of a message or of packed bytes, with each size of buffer. The memory lies at aligned
+ * and at unaligned addresses, next to a page that can't be accessed. */
 #define TEST "pieces"
 #include "wanted.h"
 
@@ -50,10 +50,10 @@ static void is_first(const char *what, const uint8_t *bytes, size_t size, capn_s
     want("no more", r.at | r.paid | r.visits | r.segment | r.word, 0);
 }
 
-/* Passes each prefix of messages of one to five segments to capn_first. The address of the prefix is aligned to 8 bytes
- * or not. For the shortest prefixes, the call reports that it needs 8 bytes. For longer prefixes, it reports the length
- * of the segment table, and then the length of the message. If the message is complete, with or without bytes after it,
- * the call reports the message's length. */
+/* Takes messages of one to five segments, and passes each prefix of a message to capn_first. The prefix lies at aligned
+ * and at unaligned addresses. For the shortest prefixes, the call reports that it needs 8 bytes. For longer prefixes,
+ * it reports the length of the segment table, and then the length of the message. If the message is complete, with or
+ * without bytes after it, the call reports the message's length. */
 static void beginnings(void) {
     static const uint32_t sizes[5] = {2, 0, 3, 1, 4};
     uint8_t bytes[160];

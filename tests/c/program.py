@@ -1,5 +1,5 @@
-"""Reads calls from standard input. The answers come from the command line tool `capn` that CAPN names, and have the
-format of the expected answers.
+"""Reads calls from standard input, and answers each call with the command line tool `capn`. The variable CAPN names the
+tool. The answers have the format of the expected answers.
 
 The program can't unpack with a limit of fewer than 2,050 message words. If a call allows fewer words, and the packed
 bytes unpack to more or are rejected, this script answers `?`."""

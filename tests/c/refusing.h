@@ -1,4 +1,5 @@
-/* An allocator that a test can tell to fail. Link with -Wl,--wrap=malloc,--wrap=realloc,--wrap=free. */
+/* An allocator whose allocations fail when a test asks for it. To use it, link the test with
+ * -Wl,--wrap=malloc,--wrap=realloc,--wrap=free. */
 #ifndef CAPN_TESTS_REFUSING_H
 #define CAPN_TESTS_REFUSING_H
 #include <stdlib.h>

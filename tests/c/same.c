@@ -1,8 +1,8 @@
 /* Tests capn_same, which compares two messages. Some messages are written by hand. Others come from standard input,
- * where each line ends with bytes in hexadecimal. They are read in each form (stream, packed and bare) and with some
- * limits. Each of the unpacked messages is compared with all others. The status, the report and `which` must follow
- * from the results of capn_canonical for the two messages. capn_same has to make as many allocations as capn_check
- * makes for the messages that capn_same reads. The test also makes each of these allocations fail. */
+ * where each line ends with bytes in hexadecimal. The bytes are read in each form (stream, packed and bare) and with
+ * some limits. Each of the unpacked messages is compared with all others. The status, the report and `which` must
+ * follow from the results of capn_canonical for the two messages. capn_same has to make as many allocations as
+ * capn_check makes for the messages that capn_same reads. The test also makes each of these allocations fail. */
 #define TEST "same"
 #include "refusing.h"
 #include "wanted.h"

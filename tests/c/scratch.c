@@ -1,8 +1,8 @@
 /* Tests capn_canonical_with_scratch, which gets scratch memory from the caller. Some messages are written by hand.
- * Others come from standard input, where each line ends with bytes in hexadecimal. They are read in each form (stream,
- * packed and bare) and with some limits. If there is enough scratch memory, the call has to return and report what
- * capn_canonical does. If there is one word less than the call needs, the call has to report again how much it needs.
- * The call must never allocate. */
+ * Others come from standard input, where each line ends with bytes in hexadecimal. The bytes are read in each form
+ * (stream, packed and bare) and with some limits. If there is enough scratch memory, the call has to return and report
+ * what capn_canonical does. If there is one word less than the call needs, the call has to report again how much it
+ * needs. The call must never allocate. */
 #define TEST "scratch"
 #include "refusing.h"
 #include "wanted.h"
@@ -11,7 +11,8 @@ enum { LINE = 1 << 20, MORE = 3, FILL = 0x55 };
 static unsigned long long answered, refused, lent;
 static uint8_t *bytes_pages, *scratch_pages, *out_pages;
 
-/* The input, the scratch memory and the buffer end at the end of a page, or a byte before it. */
+/* The input, the scratch memory and the buffer each lie in front of a page that can't be accessed: directly, or one
+ * byte away. */
 struct given {
     uint32_t form;
     const uint8_t *bytes;
@@ -138,7 +139,8 @@ static void many(size_t segments) {
     free(text);
 }
 
-/* The call tests the form, the limits and the counting rule (tariff) before it reads or writes anything. */
+/* Before capn_canonical_with_scratch reads or writes anything, it checks the form, the limits and the counting rule
+ * (tariff). */
 static void order(void) {
     uint8_t *closed = mmap(NULL, PAGE, PROT_NONE, MAP_PRIVATE | MAP_ANONYMOUS, -1, 0);
     const capn_limits none = limits_of(0, 1, 1, CAPN_STRICT), third = limits_of(1, 1, 1, 2);

@@ -1,9 +1,9 @@
-/* Tests the calls whose names end in `_segments`, which take the segments of a message. Each call must return what the
- * call without `_segments` returns for the stream of the same segments. Each line of standard input ends with the bytes
- * of a stream, in hexadecimal. The streams are these bytes, and copies of them with some bytes changed, by a fixed
- * seed. Each segment is copied alone to an odd address. The last segment ends at the end of a page, before a page that
- * can't be accessed. Then the test makes the calls on segments that no stream can have. Finally every allocation fails,
- * and the test makes the calls that need no memory. */
+/* Tests the calls that take the segments of a message. The names of these calls end in `_segments`. Each of them must
+ * return what the call of the same name without `_segments` returns for the stream of the same segments. Each line of
+ * standard input ends with the bytes of a stream, in hexadecimal. The test uses these streams, and copies in which some
+ * bytes are changed. The changes come from a fixed seed. Each segment is copied alone to an odd address. The last
+ * segment ends at the end of a page, before a page that can't be accessed. Then the test makes the calls on segments
+ * that no stream can have. Finally every allocation fails, and the test makes the calls that need no memory. */
 #define TEST "segments"
 #include "refusing.h"
 #include "wanted.h"
@@ -67,8 +67,8 @@ static uint32_t number(const uint8_t *at) {
     return at[0] | (uint32_t)at[1] << 8 | (uint32_t)at[2] << 16 | (uint32_t)at[3] << 24;
 }
 
-/* If the bytes are exactly one message, copies each of its segments alone. Then compares the calls on the segments with
- * the calls on the bytes. */
+/* If the bytes are exactly one message, copies each segment of the message to a place of its own. Then compares the
+ * calls on the segments with the calls on the bytes. */
 static void held(const uint8_t *frame, size_t size, const capn_limits *limits) {
     if (size < 8 || number(frame) >= MOST) return;
     const size_t count = (size_t)number(frame) + 1, head = 8 * (count / 2 + 1);
@@ -99,7 +99,7 @@ static void held(const uint8_t *frame, size_t size, const capn_limits *limits) {
     for (size_t i = 0; i < made; i++) free(blocks[i]);
 }
 
-/* Makes the calls on segments that no stream can have, and on so many segments that their stream would be long. */
+/* Makes the calls on segments that no stream can have, and on so many segments that a stream of them would be long. */
 static void borders(void) {
     static const uint8_t words[8 * 1024];
     static capn_segment segments[MOST + 1];

@@ -58,8 +58,8 @@ static capn_report each_call(const char *what, uint32_t form, const void *bytes,
     return wanted == CAPN_CAPABILITY ? report : checked;
 }
 
-/* Makes each call on some words: without a segment table, after a table of one segment, and after a table of two
- * segments. The second of the two segments has no words. The messages with a table are also packed. */
+/* Makes each call on some words three times: without a segment table, with a table of one segment, and with a table of
+ * two segments. The second of the two segments has no words. The messages with a table are also packed. */
 static void walks(const char *what, const uint64_t *words, size_t count, const capn_limits *limits, uint32_t wanted,
                   uint32_t word) {
     uint8_t bytes[32], text[64];
@@ -103,7 +103,7 @@ static void walked(void) {
     walks("a null root", &null, 1, &usual, CAPN_OK, 0);
 }
 
-/* Tests the errors for packed bytes and for the segment table, and the number in the report of each error. */
+/* Tests the errors for packed bytes and for the segment table. Also tests the number in the report of each error. */
 static void read_as(const char *what, uint32_t form, const void *bytes, size_t size, const capn_limits *limits,
                     uint32_t wanted, uint64_t at) {
     capn_report told = each_call(what, form, bytes, size, limits, wanted);
@@ -144,7 +144,7 @@ static void reading(void) {
 static void too_long(void) {
     const capn_limits one = limits_of(1, 1, 1, CAPN_STRICT);
     uint8_t zeros[18];
-    for (int i = 0; i < 18; i++) zeros[i] = i % 2 ? 255 : 0; /* 9 runs of 256 zero words, packed */
+    for (int i = 0; i < 18; i++) zeros[i] = i % 2 ? 255 : 0; /* these packed bytes unpack to 9 runs of 256 zero words */
     read_as("2,304 packed words", CAPN_PACKED, zeros, 18, &one, CAPN_PACKED_TOO_LONG, 16);
     size_t words = (1u << 28) + 2;
     void *bytes = mmap(NULL, 8 * words, PROT_NONE, MAP_PRIVATE | MAP_ANONYMOUS | MAP_NORESERVE, -1, 0);
@@ -182,10 +182,10 @@ static void called(void) {
     is("a struct with a zero word", capn_is_canonical(message + 8, 16, &usual, &report), CAPN_NOT_CANONICAL);
 }
 
-/* Makes calls while every allocation fails. Calls on packed bytes or on a stream of 65 segments return CAPN_MEMORY. So
- * do the calls that pack, unpack or show. For a message in one or two segments, the calls for the canonical bytes and
- * for the index succeed, because they don't allocate. The call for a digest succeeds only if the message itself is
- * canonical. */
+/* Makes calls while every allocation fails. Calls on packed bytes or on a stream of 65 segments return CAPN_MEMORY. The
+ * calls for packing, unpacking and showing also return CAPN_MEMORY. For a message in one or two segments, the calls for
+ * the canonical bytes and for the index succeed, because they don't allocate. The call for a digest succeeds only if
+ * the message itself is canonical. */
 static void without_memory(void) {
     const uint8_t many[272] = {64, 0, 0, 0, 1}, two[24] = {1, 0, 0, 0, 1}, packed[9] = {0x10, 1, 0, 0};
     const uint8_t loose[16] = {0, 0, 0, 0, 1};

@@ -1,14 +1,14 @@
 /* Tests capn_survey, which returns statistics of a message. The messages are written by hand, and some are invalid. The
- * results are compared with those of the other calls. The message is aligned to 8 bytes or not, and lies next to a page
- * that can't be accessed. */
+ * results are compared with those of the other calls. Each message is tried at aligned and at unaligned addresses, next
+ * to a page that can't be accessed. */
 #define TEST "survey"
 #include "wanted.h"
 
 static uint8_t *guarded;
 
-/* Calls capn_survey on words without a segment table, after a table of one segment, and after a table of three
- * segments. Two of the three segments have no words. The statistics have to be the expected ones, but a message of
- * three segments isn't canonical. */
+/* Calls capn_survey on some words three times: without a segment table, with a table of one segment, and with a table
+ * of three segments. Two of the three segments have no words. The statistics have to be the expected ones, with one
+ * exception: a message of three segments is never canonical. */
 static void figures(const char *what, const uint64_t *words, uint32_t count, capn_figures wanted) {
     for (uint32_t segments = 0; segments <= 3; segments += segments == 0 ? 1 : 2) {
         size_t table = segments == 0 ? 0 : 8 * (segments / 2 + 1), size = table + 8 * count;
@@ -54,7 +54,7 @@ static void figures(const char *what, const uint64_t *words, uint32_t count, cap
             want("the same", memcmp(&same, &f, sizeof f) != 0, 0);
             want("its report", r.paid != f.paid || r.visits != f.visits || r.length || r.at || r.segment || r.word, 0);
         }
-        /* Moves the message down by 1 to 7 bytes, and calls capn_survey on it again. */
+        /* Moves the message to addresses that are 1 to 7 bytes lower, and calls capn_survey on it there. */
         for (size_t off = 1; off < 8; off++) {
             uint8_t *odd = memmove(in - off, in, size);
             capn_figures same = {0, 0, 0, 0, 0, 0, 0, 0};

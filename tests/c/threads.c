@@ -1,5 +1,5 @@
-/* Tests simultaneous calls. Threads that start together make every call of capn.h on the same input, with buffers of
- * their own. Each thread must get the results that a single thread gets. */
+/* Tests simultaneous calls. Several threads start together. Each of them makes every call of capn.h on the same input,
+ * with its own buffers. Each thread must get the results that a single thread gets. */
 #include "usual.h"
 #include <pthread.h>
 #include <stdio.h>

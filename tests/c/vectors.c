@@ -1,6 +1,6 @@
 /* Reads calls from standard input, makes them, and prints the results in the format of the expected answers. The calls
- * are canonicalise, is_canonical, survey, pack, unpack, and run N hash. Bytes are in hexadecimal, and `-` stands for no
- * bytes. */
+ * are `canonicalise`, `is_canonical`, `survey`, `pack`, `unpack` and `run N hash`. Bytes are in hexadecimal, and `-`
+ * stands for no bytes. */
 #include "examples/each.h"
 #include <stdio.h>
 #include <stdlib.h>

@@ -1,6 +1,6 @@
 """Reads calls from standard input. For each call that has limits, prints an answer in the format of `ways answers` (see
-ways.c). The answer comes from the command line tool `capn` that CAPN names. The path to an error, or the first
-difference from the canonical form, comes from the output of `capn explain`."""
+ways.c). The answer is a path to an error, or the first difference from the canonical form. The script takes it from the
+output of `capn explain`. The variable CAPN names the command line tool `capn`."""
 import os
 import re
 import subprocess
@@ -13,7 +13,8 @@ DIFFERS = re.compile(
 
 
 def departure(value):
-    """Returns the value of the line `canonical` of `capn explain`, in the format of `ways answers`."""
+    """Takes the value of the line `canonical` that `capn explain` prints. Returns it in the format of `ways
+    answers`."""
     if value == "yes":
         return value
     differs = DIFFERS.fullmatch(value)

@@ -18,7 +18,7 @@ import explained
 import model
 
 KINDS = ["pointer", "null", "pad", "tag", "data", "list", "slack", "unreached"]
-# The greatest number of bytes of a list that a line quotes.
+# A line quotes at most this many bytes of a list.
 QUOTED = 32
 # All words of a line have the same kind, belong to the same visit, and are covered equally often. A line ends before
 # the first word that differs in one of these properties. A line of a kind in ALONE has only one word.
@@ -134,8 +134,8 @@ class Cover:
         return words, links
 
     def place_in(self, part, segment, at):
-        """Returns the struct in a list to which a word of the list belongs, and the index of the word among the words
-        and slots of the struct. A struct outside of a list counts as struct 0."""
+        """Finds the place of a word in a list of structs. Returns the number of the struct that has the word, and the
+        index of the word among the words and slots of the struct. A struct outside of a list has the number 0."""
         if part.shape[0] == "struct":
             return 0, at - part.begin
         size = sum(part.shape[3:])
@@ -249,7 +249,8 @@ class Notes:
         return f"{size} words, {f'{not_zero} not zero' if not_zero else 'zero'}", not_zero
 
     def listed(self, part, at, end):
-        """Returns the text of a line of a list without pointers, and whether its padding isn't zero."""
+        """Takes a line about a list without pointers. Returns the text of the line, and whether the list has padding
+        that isn't zero."""
         code, count = part.shape[1:]
         width = model.WIDTH_BITS[code]
         text = f"{count} {explained.KINDS[code]}"

@@ -1,7 +1,7 @@
 #!/usr/bin/env python3
 """Computes the output and the exit status that the program must have for a command line. It calls the function
-`run_COMMAND` of the module `model`, `explained` or `annotated`, with the options of the command as arguments. It takes
-the options from the help texts, which also show the options that take a number.
+`run_COMMAND` of the module `model`, `explained` or `annotated`, with the options of the command as arguments. The help
+texts say which options a command has, and which of them take a number.
 
     tests/program/answered.py COMMAND [OPTION..] < INPUT
 

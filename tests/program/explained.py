@@ -217,8 +217,8 @@ def accepted_lines(walk, segments):
 
 
 def came(data, form, offset):
-    """Returns the bytes of a message that was rejected before its traversal. The first item has the unpacked bytes from
-    the offset of the message on. The second item has the bytes of a truncated group."""
+    """Takes a message that was rejected before its traversal. Returns two items: the unpacked bytes from the offset of
+    the message on, and the bytes of a truncated group."""
     if form != "packed":
         return data[offset:], b""
     words, group = model.unpacked(data)

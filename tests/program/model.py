@@ -501,8 +501,8 @@ def stands(value, way):
 
 
 def styled(value, style):
-    """Returns the output of `show` for a part of a message, in the style plain, text, json or both. `value` is None if
-    the message doesn't have the part. In the styles plain and text, the output ends with the line `end`."""
+    """Returns the output of `show` for a part of a message, in the style `plain`, `text`, `json` or `both`. `value` is
+    None if the message doesn't have the part. In the styles `plain` and `text`, the output ends with the line `end`."""
     if style in ("json", "both"):
         if value is None:
             return "\n"
@@ -514,9 +514,9 @@ def styled(value, style):
 
 
 def each(data, text_of, form="stream", message_words=8388608, one=False, **limits):
-    """Returns the output for the messages of a stream, the line on standard error, and the exit status. The output
-    stops before the first rejected message. If `one` is true, the input has to be exactly one message. The function
-    `text_of` makes the output for one message. `limits` are the limits of the traversal."""
+    """Returns three results for the messages of a stream: the output, the line on standard error, and the exit status.
+    The output stops before the first rejected message. If `one` is true, the input has to be exactly one message. The
+    function `text_of` makes the output for one message. `limits` are the limits of the traversal."""
     if one:
         try:
             segments = only_message(data, form, message_words)
@@ -561,7 +561,7 @@ def run_hash(data, **options):
 
 
 def without_capability(walk):
-    """Returns the given traversal of a message. Raises an error if the message has a capability."""
+    """Takes the traversal of a message. Returns it unchanged, or raises an error if the message has a capability."""
     if walk.capability is not None:
         raise Refused(f"capability {walk.capability}")
     return walk
@@ -633,8 +633,8 @@ def listed(head, walk, segments, with_digest):
 
 
 def needed(greatest, found, tariff):
-    """Returns the lines of `limits`: the number of messages, and the greatest value of each statistic with the number
-    of its message."""
+    """Returns the lines of `limits`. They give the number of messages, and the greatest value of each statistic. With
+    each value comes the number of the message that has it."""
     most = 2**28
     words, paid, deep = (greatest[name][0] for name in greatest)
     lines = [f"messages {found}"]
@@ -647,9 +647,10 @@ def needed(greatest, found, tariff):
 
 def run(task, data, form="stream", message_words=8388608, keep_going=False, with_digest=False, count=False,
         only_canonical=False, **limits):
-    """Returns the output of a command that takes a stream of any length, its standard error, and its exit status.
-    `task` is the command: list, limits, canonical, uniq or filter. `with_digest` is an option of list, `count` of uniq,
-    and `only_canonical` of filter. `limits` are the limits of the traversal."""
+    """Returns three results of a command that takes a stream of any length: the output, the standard error, and the
+    exit status. `task` is the command: `list`, `limits`, `canonical`, `uniq` or `filter`. `with_digest` is an option of
+    `list`, `count` is an option of `uniq`, and `only_canonical` is an option of `filter`. `limits` are the limits of
+    the traversal."""
     found, fault = messages(data, form, message_words)
     out, passed, greatest = [], [], {"message-words": (0, 0), "budget": (0, 0), "depth": (0, 0)}
     kept = set()
@@ -742,8 +743,8 @@ def run_canonical(data, framed=False, keep_going=False, **options):
 
 
 def pick(data, form="stream", message_words=8388608, first=1, last=2**64 - 1):
-    """Returns the output of `pick` for the messages with the numbers `first` to `last`, the line on standard error, and
-    the exit status."""
+    """Computes `pick` for the messages with the numbers `first` to `last`. Returns the output, the line on standard
+    error, and the exit status."""
     if last < first:
         return b"", "", 0
     found, fault = messages(data, form, message_words)
@@ -794,8 +795,8 @@ def only_message(data, form, message_words):
 
 
 def canonical_of_one(data, form="stream", message_words=8388608, **limits):
-    """Returns the output of `canonical` for one message, the line on standard error, and the exit status. `limits` are
-    the limits of the traversal."""
+    """Computes `canonical` for one message. Returns the output, the line on standard error, and the exit status.
+    `limits` are the limits of the traversal."""
     try:
         walk = Walk(only_message(data, form, message_words), **limits)
         return canonical(without_capability(walk).value), "", 0

@@ -1,6 +1,6 @@
-/* A library to preload, which makes allocations of a program fail. The variables REFUSE_FROM and REFUSE_TO have the
- * numbers of the first and the last allocation that fail. For each failed allocation, the library writes a byte to the
- * file descriptor in REFUSE_TOLD. */
+/* This library is preloaded into a program. It makes allocations of the program fail. The variables REFUSE_FROM and
+ * REFUSE_TO have the numbers of the first and the last allocation that fail. For each failed allocation, the library
+ * writes a byte to the file descriptor in REFUSE_TOLD. */
 #define _GNU_SOURCE
 #include <dlfcn.h>
 #include <stdlib.h>

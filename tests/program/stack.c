@@ -1,5 +1,5 @@
-/* A library to preload, which uses 1 MiB of a program's stack before the program begins. The stack then has enough
- * memory, even if the heap takes all other memory later. */
+/* This library is preloaded into a program. It uses 1 MiB of the program's stack before the program begins. The stack
+ * then has enough memory, even if the heap takes all other memory later. */
 #include <string.h>
 
 __attribute__((constructor, noinline)) static void take_stack(void)

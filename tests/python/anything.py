@@ -113,8 +113,8 @@ def pointers(found):
 
 
 def any_of(stream):
-    """Counts the messages of a stream, their pointers, and the reads that succeed. Returns these three numbers as a
-    text."""
+    """Counts the messages of a stream, the pointers in them, and how often it succeeds in reading a pointer. Returns
+    these three numbers as a text."""
     messages = slots = read = 0
     for frame in capn.messages(stream, read_ahead=True):
         try:
@@ -129,7 +129,8 @@ def any_of(stream):
 
 
 def lines(stream):
-    """Yields the output lines for all messages of a stream. In the stream, each message comes after its length."""
+    """Yields the output lines for all messages of a stream. In the stream, the length of each message comes before the
+    message."""
     while length := stream.read(4):
         try:
             root = capn.read(stream.read(int.from_bytes(length, "little"))).root

@@ -1,5 +1,5 @@
-"""Tests the lines of messages. Compares them with known lines of hand-written messages, and with the lines of generated
-messages that the Python model of `capn annotate` makes."""
+"""Tests the lines of messages. The lines of hand-written messages are compared with known lines. The lines of generated
+messages are compared with those that the Python model of `capn annotate` makes."""
 import copy
 import pickle
 import random
@@ -32,7 +32,8 @@ MESSAGES = [
     ("0000000004000000" "0000000001000100" "0500000000000000" "010000001a000000" "6162000000000000", "stream",
      [line(8, ROOT, "POINTER", None), line(16, (0, 1), "DATA", ROOT), line(24, (0, 2), "POINTER", ROOT),
       line(32, (0, 3), "LIST", (0, 2))]),
-    # A writer set a text twice. The message still has the word of the first text, but no pointer leads to it.
+    # The writer of this message has set a text twice. The message still has the word of the first text, but no pointer
+    # leads to it.
     ("0000000000000100" "0500000032000000" "4164610000000000" "4772616365000000", "bare",
      [line(0, ROOT, "POINTER", None), line(8, (0, 1), "POINTER", ROOT),
       line(16, (0, 2), "UNREACHED", None, times=0), line(24, (0, 3), "LIST", (0, 1))]),

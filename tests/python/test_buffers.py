@@ -171,7 +171,8 @@ def long():
 
 
 def shown(data, form, limits):
-    """Calls `capn.show` with a patch. With the patch, `capn.show` reads the bytes in place instead of copying them."""
+    """Calls `capn.show` after replacing one of its functions. So `capn.show` reads the bytes in place instead of
+    copying them."""
     with unittest.mock.patch.object(capn._show, "_taken", lambda data, form, limits, _: capn._calls._taken(
             data, form, limits, True)):
         return capn.show(data, form, limits)

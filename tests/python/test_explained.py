@@ -47,7 +47,7 @@ def stop(told, before=0):
 
 
 def refusal_of(call, *arguments, **options):
-    """Returns the exception that a call raises if it rejects its message, or None."""
+    """Makes a call. If the call rejects its message, returns the exception that it raises. Otherwise returns None."""
     try:
         call(*arguments, **options)
     except capn.Refusal as refusal:
@@ -181,7 +181,7 @@ class AsExplained(unittest.TestCase):
             self.assertEqual(stop_of(refusal_of(capn.check_segments, [first, *between, last])), stop_of(refusal))
 
     def test_the_longest_way(self):
-        # The message has 256 nested lists of structs, which is the highest nesting limit that a caller may set. The
+        # The message has 256 nested lists of structs. 256 is the highest nesting limit that a caller may set. The
         # struct in the last list has a pointer to one more struct, which is too deep.
         words = []
         for _ in range(256):
@@ -210,8 +210,8 @@ class AsExplained(unittest.TestCase):
                     name, bound = limit_of(option, value)
                     bounds[name] = bound
             told = said(bytes.fromhex(answer.split(", ")[1].replace("-", "")))
-            # Leaves out output that only the program has: errors of a segment table, of packed bytes and of a length,
-            # and the number of messages.
+            # Some lines come only from the program: errors of a segment table, errors of packed bytes, errors of a
+            # length, and the number of messages. Leaves them out.
             if "accepted" not in told and "way" not in told:
                 continue
             with self.subTest(case=case):

@@ -99,7 +99,7 @@ class Page(unittest.TestCase):
         for message, wrote in (
             (MESSAGE, "reading it costs 3 words and follows 1 pointers\nTrue\n"),
             (MESSAGE[:-8], "rejected: frame: Cut\nFalse\n"),
-            # The default limits accept this message. The limits in docs/PYTHON.md reject it.
+            # With the default limits, this message is accepted. With the limits in docs/PYTHON.md, it is rejected.
             (deep(41), "rejected: TooDeep at 0:32, paid 64, visits 33\nFalse\n"),
         ):
             asked = f"print(is_within_limits({message!r}))"
@@ -149,8 +149,8 @@ class Page(unittest.TestCase):
             self.assertEqual(self.run_on(b"", program("def describe"), asked), (0, f"{expected}\n"))
 
     def test_hidden(self):
-        # A writer set the text of one message twice. The message still has the word of the first text, but no pointer
-        # leads to it. In another message, a byte after the end of a list isn't zero.
+        # In one message, the writer has set a text twice. The message still has the word of the first text, but no
+        # pointer leads to it. In another message, a byte after the end of a list isn't zero.
         twice = "0000000004000000" "0000000000000100" "0500000032000000" "4164610000000000" "4772616365000000"
         padded = "0000000002000000" "0100000022000000" "6162630000000009"
         for message, offsets in (bytes.fromhex(twice), [24]), (bytes.fromhex(padded), [16]), (MESSAGE, []):

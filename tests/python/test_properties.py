@@ -1,4 +1,5 @@
-"""Tests properties that hold for every value and for any bytes. Hypothesis draws the values and the bytes."""
+"""Tests properties that every value and any bytes must have. The Python package Hypothesis draws the values and the
+bytes at random."""
 import hashlib
 import unittest
 

@@ -59,7 +59,7 @@ class Segments(unittest.TestCase):
             self.assertEqual(capn.digest_segments(segments), digest)
         for segments in [bytearray(FIRST), bytearray(SECOND)], [bytearray(FIRST), memoryview(bytearray(SECOND))]:
             self.assertEqual(capn.digest_segments(segments, in_place=True), digest)
-            # After a call has returned, it holds no buffer, so the buffer can be resized.
+            # A call keeps no reference to a buffer after it has returned, so the buffer can then be resized.
             segments[0].append(0)
         self.assertEqual(capn.canonical_segments([FIRST, SECOND]), SECOND)
         self.assertEqual(capn.check_segments([FIRST, SECOND]), capn.Checked(paid=3, visits=1))

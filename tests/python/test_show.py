@@ -85,8 +85,9 @@ class Shown(unittest.TestCase):
                 self.assertEqual(ran(line[1:], data), (wrote.stdout, wrote.stderr.decode(), wrote.returncode))
 
     def test_a_part_is_shown_as_the_whole_is(self):
-        # The C library dumps a whole message. The Python package itself dumps a part of a message, such as its root.
-        # `capn.show` has to return the same dump for a message object, for its root and for its bytes.
+        # The dump of a whole message comes from the C library. The dump of a part of a message, such as its root, comes
+        # from the Python package itself. `capn.show` has to return the same dump for a message object, for its root and
+        # for its bytes.
         source, shown = random.Random(9), 0
         for _ in range(1000):
             data = archives.framed(archives.segments_of(source))
@@ -108,8 +109,8 @@ class Shown(unittest.TestCase):
         self.assertGreater(shown, 2000)
 
     def test_texts(self):
-        # The C library dumps whole messages, and the Python package dumps parts. Both are compared with the Python
-        # model.
+        # The dumps of whole messages come from the C library, and the dumps of parts come from the Python package. Both
+        # kinds of dumps are compared with the Python model.
         source, texts, quoted = random.Random(10), 0, 0
         some = ["", "a", "ä", "€", "😀", '"', "\\", "\t", "\n", "\r", "\xad", "\u200b", "\u202e", "\ufeff", "\U000e007f",
                 "\0", "\x07", "\x7f", "\x80", "\x9f", "\xa0"]
@@ -136,7 +137,7 @@ class Shown(unittest.TestCase):
         self.assertRaises(ValueError, capn.show, message)
 
     def test_deep(self):
-        # The message has 256 nested lists of structs, which is the highest nesting limit that a caller may set.
+        # The message has 256 nested lists of structs. 256 is the highest nesting limit that a caller may set.
         words = []
         for level in range(256):
             words += [1 | 7 << 32 | 1 << 35, 1 << 2 | 1 << 48]

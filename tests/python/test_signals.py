@@ -22,8 +22,8 @@ from test_reading import Pieces
 from test_streams import SECONDS, SMALL, Blocking, Peeking
 
 LONG = stream(struct.pack("<IHH", 0, 600, 0) + bytes(range(1, 241)) * 20)
-# The messages of the stream. They have one segment, two segments, or no words, and two equal messages follow each
-# other. One message is longer than the part of a stream that a reader looks at in one call.
+# The messages of the stream. They have one segment, two segments, or no words, and there are two equal messages in a
+# row. One message is longer than the part of a stream that a reader looks at in one call.
 MESSAGES = [SMALL, SMALL, stream(bytes(8), bytes(16)), stream(b""), SMALL, LONG, SMALL]
 
 

@@ -46,7 +46,7 @@ def hashed(data, form):
 
 
 def parted(data):
-    """Splits a stream, and yields its messages. The last item is the rest of the stream, which need not be a
+    """Splits a stream, and yields its messages. The last item is the rest of the stream. This rest need not be a
     message."""
     while data:
         end = len(data)

@@ -142,8 +142,8 @@ class Schemas(unittest.TestCase):
             (("pointers", [text("abc"), None]), [(0, "bytes"), (0, "null")], None, ["bytes", "null"]),
             (("rows", 1, 2, [([0x10003], [None, None]), ([4], [text("abc"), None])]), [(3, "null"), (4, "bytes")],
              [3, 4], ["null", "bytes"]),
-            # If a struct in the list has no words, its number is the default. If it has no pointers, its pointer is
-            # null.
+            # From a struct without words, the default is read as its number. From a struct without pointers, null is
+            # read as its pointer.
             (("rows", 1, 0, [([5], [])]), [(5, "null")], [5], ["null"]),
             (("rows", 0, 1, [([], [text("abc")])]), [(0, "bytes")], [0], ["bytes"]),
             (("rows", 0, 0, [([], [])] * 2), [(0, "null")] * 2, [0, 0], ["null", "null"]),
@@ -237,7 +237,8 @@ class Schemas(unittest.TestCase):
                 self.assertRaises(capn.Mismatch, wrong)
 
     def test_texts_and_data(self):
-        # An exception that the sender causes is always a `Mismatch`. It may have other base classes, too.
+        # An exception that the sender causes is always a `Mismatch`. Besides `Mismatch`, this exception may have other
+        # base classes.
         values = [None, ("struct", [1], [None]), ("list", 0, 3, b""), ("list", 1, 3, bytes(8)), text("abc"),
                   ("list", 3, 1, bytes(8)), ("pointers", [None]), ("rows", 1, 1, [([5], [None])]),
                   ("list", 2, 3, b"abc" + bytes(5)), ("list", 2, 0, b""), ("list", 2, 3, b"\xff\xfe\0" + bytes(5))]

@@ -686,7 +686,7 @@ class AfterAnException(unittest.TestCase):
 
 class Ahead(unittest.TestCase):
     """Tests readers with `read_ahead`. They return the same results as other readers, as soon as the bytes have come.
-    But they may take more bytes from the file than the message has."""
+    But they may take more bytes from the file than the returned message has."""
 
     def test_the_same_answers(self):
         source = random.Random(67)

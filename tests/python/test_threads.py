@@ -141,7 +141,7 @@ def stress(until):
 
 class TwoThreads(unittest.TestCase):
     def test_workers_that_share_a_stream(self):
-        # The test runs in another process, because a memory error would end the process.
+        # The test runs in another process, because a memory error would end the process in which it happens.
         ran = subprocess.run([sys.executable, "-B", __file__, "stress"], capture_output=True, text=True, timeout=500)
         self.assertEqual((ran.returncode, ran.stderr), (0, ""), ran.stdout)
         self.assertRegex(ran.stdout, r"^busy [1-9]\d*\n$")
@@ -174,8 +174,8 @@ class Handlers(unittest.TestCase):
     """Tests a signal handler that uses the stream that the interrupted call is reading."""
 
     def reads_in_between(self, found, call, wanted):
-        """Makes a call, and a second call while the first one calls C. The second call has to fail, since the stream is
-        in use."""
+        """Makes a call on a stream. When this call calls a function in C, makes a second call. The second call has to
+        fail, since the stream is in use."""
         wrong, got = [], []
 
         def watch(frame, event, _):

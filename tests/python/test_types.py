@@ -117,7 +117,7 @@ def functions():
     for one in classes():
         for inner in vars(one).values():
             inner = inner.fget if isinstance(inner, property) else inner
-            # Leaves out methods without type hints, which Python itself makes for a dataclass or a tuple.
+            # Leaves out the methods that Python itself makes for a dataclass or a tuple. They have no type hints.
             if inspect.isfunction(inner) and Path(inner.__code__.co_filename).parent == SITE / "capn":
                 yield inner
 

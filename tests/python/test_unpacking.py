@@ -41,7 +41,7 @@ class Splitters(unittest.TestCase):
     LIMITS = capn.Limits(message_words=1 << 10, budget=1 << 10)
 
     def test_few_bytes_are_many_messages(self):
-        # One MiB of the packed zeros in MANY unpacks to 134,217,728 messages.
+        # Copies of MANY, one MiB in all, unpack to 134,217,728 messages.
         splitter = capn.Splitter("packed", self.LIMITS)
         found, took = peak(lambda: splitter.feed(MANY * (1 << 19)))
         self.assertLess(took, 64 * MIB)

@@ -1,6 +1,6 @@
 // Writes messages with builders of the reference implementation. Some messages have orphans. `orphans SEED COUNT`
 // writes a stream of messages to standard output. The stream is the same in every run. For each message, the program
-// writes a line to standard error: the number of the orphans, and the number of words that an orphan uses. To count
+// writes a line to standard error: the number of its orphans, and the number of words that these orphans use. To count
 // these words, the program drops the orphans after it has written the message. The library then sets their words to
 // zero.
 //

@@ -1,8 +1,9 @@
 // Writes pairs of messages with builders of the reference implementation. `pairs SEED COUNT` writes the pairs as a
-// stream, which is the same in every run. The two messages of an even pair have one value in two layouts. The two
-// messages of an odd pair have values that differ in one place. Layouts differ in the sizes of structs and of structs
-// in lists, as an older and a newer schema do. They also differ in the order of objects, in the sizes of segments and
-// so in the far pointers, and in the gaps where an object was moved or dropped.
+// stream, which is the same in every run. In a pair with an even number, the two messages have one value in two
+// layouts. In a pair with an odd number, the values of the two messages differ in one place. Layouts differ in the
+// sizes of structs, in lists and elsewhere, as they do between an older and a newer schema. They also differ in the
+// order of objects, in the sizes of segments and so in the far pointers, and in the gaps where an object was moved or
+// dropped.
 #include <capnp/any.h>
 #include <capnp/message.h>
 #include <capnp/orphan.h>

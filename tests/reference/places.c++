@@ -102,7 +102,8 @@ void message(const std::vector<unsigned char>& bytes) {
 
 }  // namespace
 
-// Each message comes after its length in bytes. The length is a number of four bytes, the least significant byte first.
+// Before each message comes its length in bytes. The length is a number of four bytes, the least significant byte
+// first.
 int main() {
   unsigned char head[4];
   while (fread(head, 1, 4, stdin) == 4) {

@@ -1,6 +1,7 @@
-// Reads the message on standard input with the reference implementation's library. It reads by an old schema, which has
-// a list of numbers where a newer schema has structs. It prints the first pointer of the root as a `List(UInt16)`, with
-// its numbers on one line. If the library rejects the message, the program prints the reason and ends with status 1.
+// Reads the message on standard input with the reference implementation's library. The program reads with an old
+// schema, which has a list of numbers where a newer schema has structs. It prints the first pointer of the root as a
+// `List(UInt16)`, with its numbers on one line. If the library rejects the message, the program prints the reason and
+// ends with status 1.
 #include <capnp/any.h>
 #include <capnp/serialize.h>
 #include <stdio.h>
