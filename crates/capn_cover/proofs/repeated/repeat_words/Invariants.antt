@@ -1,7 +1,7 @@
 use Rattle.std.proofs.Common.{◌≡◌}
 use Rattle.capn_cover.specs.Covers.{run}
 use Rattle.capn_cover.specs.inner.Laid.{laid, IsFollowed}
-use Rattle.capn_cover.proofs.object_words.cover_known.Given as goal
+use Rattle.capn_cover.proofs.repeated.repeat_words.Given as goal
 
 abbrev pub invariant-loop-i : goal.invariant-loop-i
 invariant-loop-i g l = record {
