@@ -19,6 +19,7 @@ use std::sync::ledger::Ledger;
 
 /// Surveys the message `space` within `limits`, and counts reads and turns of loops in `reads`. Refuses a message
 /// without canonical bytes.
+#[inline(always)]
 fn survey_free<S: Space, L: Ledger>(
     space: &CountedSpace<'_, S, L>,
     limits: Limits,
@@ -38,6 +39,7 @@ fn survey_free<S: Space, L: Ledger>(
 
 /// Tests whether `b` has the value of `a`, and counts reads and turns of loops in `first` for `a` and in `second` for
 /// `b`. Refuses a `b` without canonical bytes.
+#[inline(always)]
 fn same_counted<S: Space, T: Space, L: Ledger, M: Ledger>(
     a: &CountedSpace<'_, S, L>,
     b: &CountedSpace<'_, T, M>,
@@ -160,6 +162,7 @@ impl<'f, 's, A: Space, L: Ledger> MessageTask<Global> for Second<'f, 's, A, L> {
 }
 
 /// Runs `task` on the message that `bytes` encode in `form`.
+#[inline(always)]
 fn run_second<A: Space, L: Ledger>(
     alloc: Global,
     task: &mut Second<'_, '_, A, L>,
@@ -177,6 +180,7 @@ fn run_second<A: Space, L: Ledger>(
 
 /// Tests whether the message that `bytes` encode in `form` has the value of `first`, whose reads are counted in
 /// `reads`. Memory is allocated only for a packed text, and for a frame of more than 64 segments.
+#[inline(always)]
 fn same_in<A: Space, L: Ledger>(
     alloc: Global,
     first: &CountedSpace<'_, A, L>,
@@ -202,6 +206,7 @@ fn same_in<A: Space, L: Ledger>(
 
 /// Compares the message `space` with the message that `second` encodes in `form`, and counts reads and turns of loops
 /// on `space` in `reads`. `second` isn't read if `space` has no canonical bytes.
+#[inline(always)]
 fn compare_counted<S: Space, L: Ledger>(
     alloc: Global,
     space: &CountedSpace<'_, S, L>,
