@@ -1,12 +1,11 @@
 -- The result for two messages is also the result for the bytes that are read as those messages. (For `compared.rt` and
 -- `compare`.)
-use Rattle.std.proofs.Common.{◌≡◌, ◌≢◌, ◌↔◌, inl, inr, ℕ, List, Bool, IsTrue, refl, sym, subst}
+use Rattle.std.proofs.Common.{◌≡◌, ◌↔◌, inl, inr, ℕ, List, Bool, IsTrue, subst}
 use Rattle.std.proofs.Common.{Result, Ok, Err, IfOk, IfErr, IsErrOf}
-use Rattle.std.proofs.lemmas.Result.{IfOk-weaker, IfErr-weaker}
 use Rattle.capn_value.specs.Tree.{Tree}
 use Rattle.capn_value.specs.Same.{Same}
 use Rattle.capn_walk.specs.Limits.{AreLimits, Bounds}
-use Rattle.capn_canon.specs.Answered.{IsAnswered, IsRefusedReading, IsRun}
+use Rattle.capn_canon.specs.Answered.{IsAnswered, IsRefusedReading}
 use Rattle.capn_canon.specs.Denotes.{Denotes}
 use Rattle.capn_canon.specs.Laws.{DenotedHaveForms, EqualExactlySame}
 use Rattle.capn_canon.specs.MemoryNeed.{MayNeedMemory}
@@ -18,33 +17,8 @@ use Rattle.capn_canon.proofs.shared.NotRefused.{refused_message}
 use Rattle.capn_canon.proofs.shared.OneReading.{one_value}
 use Rattle.capn_answers.proofs.shared.Reading.{reading_unaccepted, reading_wanted, reading_within}
 use Rattle.capn_c.specs.Compared.{ComparesIn, DenoteBoth}
-use Rattle.capn_c.specs.inner.Told.{IsCompared, IsComparedTo, IsSameTo, IsSecondTold, IsToldOf}
+use Rattle.capn_c.specs.inner.Told.{IsCompared, IsComparedTo}
 use Rattle.capn_c.proofs.OutOfMemory.{unaccepted_refused}
-
--- ---- a second message, in each form
-
-module _ (first : List (List ℕ)) (form : Form) (bs : List ℕ) (limits : Bounds) where
-  -- The result of the task on the second message, which has the first message and the limits.
-  abbrev IsSecondRun : Result Bool Refusal → List (List ℕ) × Bounds → Type 0
-  IsSecondRun r new = IsRun form bs limits
-      (λ (task : List (List ℕ) × Bounds) m l x after. IsToldOf m task.1 (λ same. IsSameTo task.0 m task.1 same) x)
-      (first, limits) r new
-
-  pub second_told : (r : Result Bool Refusal) (new : List (List ℕ) × Bounds) → IsSecondRun r new
-      → IsSecondTold first form bs limits r
-  second_told r new (inl (m, reads, h)) = record {
-    found = IfOk-weaker r _ _ (λ t s. (m, reads, s)) h.found;
-    refused = IfErr-weaker r _ _ (λ e s. refused_message form bs limits m e reads s) h.refused;
-    memory = (λ e. absurd (subst (λ (x : Result Bool Refusal). IfErr x (λ f. f ≢ refusals.Memory)) e h.no_memory refl));
-    bounded = h.bounded;
-  }
-  second_told r new (inr (e, is, h, same)) =
-      subst (λ (x : Result Bool Refusal). IsSecondTold first form bs limits x) (sym is) (record {
-        found = tt;
-        refused = unaccepted_refused form bs limits e (reading_unaccepted form bs limits e h);
-        memory = (λ w. reading_wanted form bs limits (Err e) e refl h w);
-        bounded = reading_within form bs limits e h;
-      })
 
 -- ---- a first message, in each form
 

@@ -1,8 +1,10 @@
--- The value at the root of a message that has canonical bytes is ready to be compared. (For `same_surveyed`.)
+-- The value at the root of a message that has canonical bytes is ready to be compared, and costs at most the budget.
+-- (For `same_surveyed`.)
 use Rattle.std.proofs.Common.{ℕ, ◌^◌, ◌≤◌, List, arith}
 use Rattle.capn_words.specs.Message.{IsMessage}
-use Rattle.capn_value.specs.Cost.{base}
-use Rattle.capn_walk.specs.Accepted.{root}
+use Rattle.capn_value.specs.Cost.{base, cost}
+use Rattle.capn_value.specs.Tree.{Tree}
+use Rattle.capn_walk.specs.Accepted.{IsValueOf, paid, root}
 use Rattle.capn_walk.specs.Limits.{Bounds}
 use Rattle.capn_walk.proofs.shared.Fitting.{fits-root, root-costs}
 use Rattle.capn_walk.proofs.shared.InRangeAt.{in_range-at}
@@ -26,3 +28,11 @@ root-ready m limits is small shallow (v, h, free) =
       low = c.1;
       room = let a = k.0 in let b = k.2 in omega arith;
     }
+
+pub root-cheap : (m : List (List ℕ)) (limits : Bounds) (v : Tree) → IsValueOf m limits v
+    → cost (base limits.tariff) v ≤ limits.budget
+root-cheap m limits v h =
+    let c : cost (base limits.tariff) v ≤ paid m limits =
+    (root-costs m (base limits.tariff) limits.depth v h.is h.accepted.within.all).0 in
+    let p : paid m limits ≤ limits.budget = h.accepted.within.paid in
+    omega arith

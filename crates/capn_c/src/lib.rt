@@ -14,6 +14,7 @@
 
 pub mod agreement;
 mod annotate_call;
+mod asked_beside;
 mod canonical_call;
 mod canonical_fill;
 mod canonical_scratch_call;

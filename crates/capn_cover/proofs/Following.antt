@@ -29,7 +29,7 @@ marked-now slot cells l =
     (get_or-set_same cells slot (followed (get_or cells slot unreached)) unreached l)
 
 module _ (m : List (List ℕ)) where
-  once-followed : (slot : ℕ) (role : Role) (x : Covered) → (once_more m slot role x).is_followed ≡ x.is_followed
+  pub once-followed : (slot : ℕ) (role : Role) (x : Covered) → (once_more m slot role x).is_followed ≡ x.is_followed
   once-followed slot role x =
       pick (λ (y : Covered). y.is_followed ≡ x.is_followed) (x.times == 0) (first_covered m slot role x)
       (covered_again m slot role x) (λ t. refl) (λ f. refl)

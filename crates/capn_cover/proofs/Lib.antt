@@ -17,3 +17,5 @@ mod PlaceOf
 mod SameParts
 mod Knowing
 mod Following
+mod KnownWords
+mod Together

@@ -3,11 +3,12 @@ use Rattle.std.proofs.Common.{◌≡◌, ◌⊎◌, inl, inr, ℕ, zero, suc, �
 use Rattle.std.proofs.Common.{slice_index, Option, Some, None, refl, ap, ap₂, sym, ◌∙◌, arith}
 use Rattle.std.proofs.lemmas.Bool.{cases_lt}
 use Rattle.std.proofs.lemmas.Bool.Decides.{nat_tests}
+use Rattle.std.proofs.lemmas.List.{get_or_past}
 use Rattle.std.proofs.lemmas.List.Sums.{sum_by-cons}
-use Rattle.capn_words.specs.Message.{segment_at, total}
+use Rattle.capn_words.specs.Message.{IsPlace, segment_at, total}
 use Rattle.capn_words.specs.declared.space.Place.{Place}
 use Rattle.capn_words.proofs.shared.Choices.{pick}
-use Rattle.capn_cover.specs.Numbers.{place_from, CountsBefore}
+use Rattle.capn_cover.specs.Numbers.{number, place_from, CountsBefore}
 use Rattle.capn_cover.specs.inner.Laid.{IsLastBefore}
 use Rattle.capn_cover.proofs.Before.{next}
 
@@ -84,3 +85,17 @@ module _ (m : List (List ℕ)) (before : List ℕ) (n s w : ℕ) (counts : Count
 
   pub place-lost : length (segment_at m s) ≤ w → place_from 0 m n ≡ None
   place-lost h = place-none m 0 n (behind h (cases_lt (s + 1) (length before)))
+
+-- the place of the number of a place
+pub place-of-number : (m : List (List ℕ)) (at : Place) → IsPlace m at → place_from 0 m (number m at) ≡ Some at
+place-of-number m at h = by (cases_lt at.segment (length m))
+  where
+    by : (at.segment < length m) ⊎ (length m ≤ at.segment) → place_from 0 m (number m at) ≡ Some at
+    by (inl l) =
+        let x : 0 + at.segment ≡ at.segment = omega arith in
+        let y : number m at - total (take at.segment m) ≡ at.word = omega arith in
+        place-here m at.segment 0 (number m at) l (omega arith) (omega arith) ∙ ap₂ here x y
+    by (inr past) =
+        let e = get_or_past m at.segment [] past in
+        let z = ap (λ (ws : List ℕ). length ws) e in
+        absurd (omega arith)

@@ -144,7 +144,7 @@ module _ (P : ℕ → Type 0) where
     slots-pad m pads (Cap k) = tt
     slots-pad m pads (Reserved n) = tt
 
-  slots-covers : (m : List (List ℕ)) (at : Place) (r : Result Target Fault) → P (number m at)
+  pub slots-covers : (m : List (List ℕ)) (at : Place) (r : Result Target Fault) → P (number m at)
       → AllSlots P (covers m at r)
   slots-covers m at (Ok (targets.Content s start shape pads)) is =
       slots-both (pad_run m (number m at) pads (pointer_in m at.segment at.word))

@@ -1,3 +1,4 @@
+pub mod Known
 pub mod Knows
 pub mod Laid
 pub mod Marked

@@ -9,10 +9,12 @@ ghost use Rattle.capn_target.specs.Shapes.{IsContent, extent, RowsFit};
 ghost use Rattle.capn_walk.specs.Visits.{places, row_places, slots};
 ghost use Rattle.capn_cover.specs.Numbers.{CountsBefore};
 ghost use Rattle.capn_cover.specs.Covers.{covers, pad_run};
+ghost use Rattle.capn_cover.specs.inner.Known.{AreKnownTogether};
 ghost use Rattle.capn_cover.specs.inner.Laid.{laid, HasRoom, Leads, cover_below, cover_of};
 
 use crate::covered::{Covered, Role};
 use crate::object_words::cover_content;
+use crate::repeated::{is_repeated, repeat_object};
 use crate::starts::number_of;
 use crate::word_runs::cover_run;
 use capn_walk::{Shape, Target, resolve};
@@ -71,13 +73,19 @@ fn cover_object<S: Space>(
     requires each { length cells.old ≡ total (S.message space.now) }
     requires place { IsPlace (S.message space.now) at }
     requires leads { spec.target (S.message space.now) at ≡ Ok (targets.Content segment start shape pads) }
+    requires known { AreKnownTogether (S.message space.now) cells.old }
     requires room { HasRoom (length
         (covers (S.message space.now) at (Ok (targets.Content segment start shape pads)))) cells.old }
-    ensures { cells.new ≡ laid (S.message space.now)
+    ensures cells { cells.new ≡ laid (S.message space.now)
         (covers (S.message space.now) at (Ok (targets.Content segment start shape pads))) cells.old }
+    ensures known { AreKnownTogether (S.message space.now) cells.new }
 {
     let slot = number_of(space, before, at.segment, at.word);
     let first = number_of(space, before, segment, start);
+    if is_repeated(cells, slot) {
+        repeat_object(space, before, cells, at, pads, slot, first, shape);
+        return;
+    }
     cover_pads(space, before, cells, at, pads, slot);
     cover_content(space, before, cells, first, shape, slot);
 }
@@ -91,8 +99,10 @@ pub fn cover_slot<S: Space>(space: &S, before: &[u32], cells: &mut [Covered], at
     requires counts { CountsBefore (S.message space.now) before.now }
     requires each { length cells.old ≡ total (S.message space.now) }
     requires place { IsPlace (S.message space.now) at }
+    requires known { AreKnownTogether (S.message space.now) cells.old }
     requires room { HasRoom (length (cover_below (S.message space.now) depth at)) cells.old }
-    ensures { cells.new ≡ laid (S.message space.now) (cover_below (S.message space.now) depth at) cells.old }
+    ensures cells { cells.new ≡ laid (S.message space.now) (cover_below (S.message space.now) depth at) cells.old }
+    ensures known { AreKnownTogether (S.message space.now) cells.new }
 {
     if depth == 0 {
         return;
@@ -132,9 +142,11 @@ fn cover_object_slots<S: Space>(
     requires each { length cells.old ≡ total (S.message space.now) }
     requires content { IsContent (S.message space.now) (record { segment = segment; word = start }) (extent shape) }
     requires fits { RowsFit shape }
+    requires known { AreKnownTogether (S.message space.now) cells.old }
     requires room { HasRoom (length (cover_of (S.message space.now) depth (slots segment start shape))) cells.old }
-    ensures { cells.new ≡ laid (S.message space.now)
+    ensures cells { cells.new ≡ laid (S.message space.now)
         (cover_of (S.message space.now) depth (slots segment start shape)) cells.old }
+    ensures known { AreKnownTogether (S.message space.now) cells.new }
 {
     match shape {
         Shape::Node { words, slots } => {
@@ -184,10 +196,12 @@ fn cover_slots<S: Space>(
     requires counts { CountsBefore (S.message space.now) before.now }
     requires each { length cells.old ≡ total (S.message space.now) }
     requires content { IsContent (S.message space.now) first count }
+    requires known { AreKnownTogether (S.message space.now) cells.old }
     requires room { HasRoom (length
         (cover_of (S.message space.now) depth (places first.segment first.word count))) cells.old }
-    ensures { cells.new ≡ laid (S.message space.now)
+    ensures cells { cells.new ≡ laid (S.message space.now)
         (cover_of (S.message space.now) depth (places first.segment first.word count)) cells.old }
+    ensures known { AreKnownTogether (S.message space.now) cells.new }
 {
     for i in 0..count {
         let at = Place {
@@ -218,10 +232,12 @@ fn cover_row_slots<S: Space>(
     requires counts { CountsBefore (S.message space.now) before.now }
     requires each { length cells.old ≡ total (S.message space.now) }
     requires content { IsContent (S.message space.now) first (count * (words + slots)) }
+    requires known { AreKnownTogether (S.message space.now) cells.old }
     requires room { HasRoom (length
         (cover_of (S.message space.now) depth (row_places first.segment first.word words slots count))) cells.old }
-    ensures { cells.new ≡ laid (S.message space.now)
+    ensures cells { cells.new ≡ laid (S.message space.now)
         (cover_of (S.message space.now) depth (row_places first.segment first.word words slots count)) cells.old }
+    ensures known { AreKnownTogether (S.message space.now) cells.new }
 {
     let mut next = first.word;
     for row in 0..count {

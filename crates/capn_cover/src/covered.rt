@@ -52,7 +52,8 @@ pub struct Covered {
 }
 
 impl Role {
-    /// Tests whether a word in this role is covered by an object, and not by the message itself or by a landing pad.
+    /// Tests whether a word in this role is covered by neither the message itself nor a landing pad: an object covers
+    /// it, or it is unreached.
     #[inline(always)]
     pub(crate) fn is_of_object(self) -> bool
         ensures { result ≡ is_of_object self }

@@ -22,6 +22,7 @@ mod message_cover;
 mod object_words;
 mod one_word;
 mod part;
+mod repeated;
 mod starts;
 mod word_runs;
 

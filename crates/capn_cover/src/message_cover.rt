@@ -125,10 +125,23 @@ fn cover_accepted<S: Space, A: Allocator + Copy>(
     let before = words_before(alloc, space)?;
     let total = total_words(space);
     let mut words = vec![in alloc; Covered::unreached(); total as usize]?;
-    cover_word(space, &before, &mut words, 0, 0, Role::Root);
-    cover_slot(space, &before, &mut words, Place::ROOT, depth);
+    cover_all(space, &before, &mut words, depth);
     cut_covered(space, &before, &mut words, depth);
     Ok(words)
+}
+
+/// Covers the root's slot by the message itself, and then makes all visits of the message `space`, which is at most
+/// `depth` objects deep. Nothing covers `cells` yet. Element `s` of `before` is the number of words before segment `s`.
+fn cover_all<S: Space>(space: &S, before: &[u32], cells: &mut [Covered], depth: u32)
+    requires message { IsMessage (S.message space.now) }
+    requires counts { CountsBefore (S.message space.now) before.now }
+    requires place { IsPlace (S.message space.now) root }
+    requires few { 1 + length (cover_below (S.message space.now) depth root) < 2 ^ 32 }
+    requires fresh { cells.old ≡ replicate (total (S.message space.now)) unreached }
+    ensures { cells.new ≡ laid (S.message space.now) (whole ∷ cover_below (S.message space.now) depth root) cells.old }
+{
+    cover_word(space, before, cells, 0, 0, Role::Root);
+    cover_slot(space, before, cells, Place::ROOT, depth);
 }
 
 /// Marks each of the words `cells` that canonical bytes leave out of the object to which it belongs. What covers the

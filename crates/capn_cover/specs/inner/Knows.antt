@@ -5,7 +5,8 @@ use Rattle.capn_cover.specs.declared.covered.Role.{Role}
 use Rattle.capn_cover.specs.declared.covered.Role.TheVariants as roles
 use Rattle.capn_cover.specs.Parts.{differs}
 
--- a word in the given role is covered by an object, and not by the message itself or by a landing pad
+-- a word in the given role is covered by neither the message itself nor a landing pad: an object covers it, or it is
+-- unreached
 abbrev pub is_of_object : Role → Bool
 is_of_object roles.Root = false
 is_of_object roles.Pad = false

@@ -12,42 +12,42 @@ use Rattle.capn_cover.proofs.BelowSlots.{below-zero, below-null, below-target, b
 use Rattle.capn_cover.proofs.Rooms.{laid-next, room-first, room-second, room-part}
 use Rattle.capn_cover.proofs.cover_visits.+cover_slots.Goals as goal
 
-pub cover_slot-returns-then-depth-eq0 : goal.cover_slot-returns-then-depth-eq0
-cover_slot-returns-then-depth-eq0 g t c =
+pub cover_slot-returns-then-depth-eq0-clause-cells : goal.cover_slot-returns-then-depth-eq0-clause-cells
+cover_slot-returns-then-depth-eq0-clause-cells g t c =
     let m = g.S.Space.message c.args.space.now in
     let e = below-zero m c.args.at c.args.depth c.if-depth-eq0.true in
     rw e refl
 
-pub cover_slot-returns-in-Err : goal.cover_slot-returns-in-Err
-cover_slot-returns-in-Err g t c =
+pub cover_slot-returns-in-Err-clause-cells : goal.cover_slot-returns-in-Err-clause-cells
+cover_slot-returns-in-Err-clause-cells g t c =
     let m = g.S.Space.message c.args.space.now in
     let e = sym c.resolve.ensures.exact ∙ c.in-Err.is in
     let b = below-fault m c.args.at c.args.depth c.in-Err.field-0 e in
     rw b refl
 
-pub cover_slot-returns-in-Nil : goal.cover_slot-returns-in-Nil
-cover_slot-returns-in-Nil g t c =
+pub cover_slot-returns-in-Nil-clause-cells : goal.cover_slot-returns-in-Nil-clause-cells
+cover_slot-returns-in-Nil-clause-cells g t c =
     let m = g.S.Space.message c.args.space.now in
     let e = sym c.resolve.ensures.exact ∙ c.in-Ok.is ∙ ap Ok c.in-Nil.is in
     let b = below-target m c.args.at c.args.depth targets.Nil e c.if-depth-eq0.false in
     rw b refl
 
-pub cover_slot-returns-in-Cap : goal.cover_slot-returns-in-Cap
-cover_slot-returns-in-Cap g t c =
+pub cover_slot-returns-in-Cap-clause-cells : goal.cover_slot-returns-in-Cap-clause-cells
+cover_slot-returns-in-Cap-clause-cells g t c =
     let m = g.S.Space.message c.args.space.now in
     let e = sym c.resolve.ensures.exact ∙ c.in-Ok.is ∙ ap Ok c.in-Cap.is in
     let b = below-target m c.args.at c.args.depth (targets.Cap c.in-Cap.field-0) e c.if-depth-eq0.false in
     rw b refl
 
-pub cover_slot-returns-in-Content : goal.cover_slot-returns-in-Content
-cover_slot-returns-in-Content g t c =
+pub cover_slot-returns-in-Content-clause-cells : goal.cover_slot-returns-in-Content-clause-cells
+cover_slot-returns-in-Content-clause-cells g t c =
     let m = g.S.Space.message c.args.space.now in
     let x = c.in-Content in
     let found = targets.Content x.segment x.start x.shape x.pads in
     let e = sym c.resolve.ensures.exact ∙ c.in-Ok.is ∙ ap Ok x.is in
     let b = below-target m c.args.at c.args.depth found e c.if-depth-eq0.false in
     laid-next m _ (covers m c.args.at (Ok found)) (cover_of m (c.args.depth - 1) (slots x.segment x.start x.shape))
-    c.args.cells.now _ _ b c.cover_object.ensures c.cover_object_slots.ensures
+    c.args.cells.now _ _ b c.cover_object.ensures.cells c.cover_object_slots.ensures.cells
 
 pub cover_slot-cover_object-requires-clause-room : goal.cover_slot-cover_object-requires-clause-room
 cover_slot-cover_object-requires-clause-room g t c =
@@ -72,7 +72,7 @@ cover_slot-cover_object_slots-requires g t c κs within =
     let each = c.requires.each in
     let some = c.if-depth-eq0.false in
     let room = room-second m (cover_below m c.args.depth c.args.at) (covers m c.args.at (Ok found))
-    (cover_of m (c.args.depth - 1) (slots x.segment x.start x.shape)) c.args.cells.now _ b c.cover_object.ensures
+    (cover_of m (c.args.depth - 1) (slots x.segment x.start x.shape)) c.args.cells.now _ b c.cover_object.ensures.cells
     c.requires.room in
     search rules
 
@@ -85,7 +85,7 @@ cover_slots-cover_slot-requires g t c κs within =
     let i = c.loop-i.i in
     let room = room-part m (slots_to m d s w c.args.count) (slots_to m d s w i) (cover_below m d (slot s (w + i)))
     (cover_of m d (places s (w + i + 1) (c.args.count - suc i))) c.args.cells.now c.loop-i.cells
-    (slots-split m d s w i c.args.count c.loop-i-test.true) c.loop-i.invariant c.requires.room in
+    (slots-split m d s w i c.args.count c.loop-i-test.true) c.loop-i.invariant.cells c.requires.room in
     search rules
 
 pub cover_slots-loop-i-preserved-then-word-eq0 : goal.cover_slots-loop-i-preserved-then-word-eq0
@@ -96,8 +96,11 @@ cover_slots-loop-i-preserved-then-word-eq0 g t c =
     let d = c.args.depth in
     let i = c.loop-i.i in
     let null = below-null m (slot s (w + i)) d (sym c.word.ensures ∙ c.if-word-eq0.true) in
-    laid-next m _ (slots_to m d s w i) (cover_below m d (slot s (w + i))) c.args.cells.now c.loop-i.cells _
-    (slots-next m d s w i) c.loop-i.invariant (rw null refl)
+    record {
+      cells = laid-next m _ (slots_to m d s w i) (cover_below m d (slot s (w + i))) c.args.cells.now c.loop-i.cells _
+          (slots-next m d s w i) c.loop-i.invariant.cells (rw null refl);
+      known = c.loop-i.invariant.known;
+    }
 
 pub cover_slots-loop-i-preserved : goal.cover_slots-loop-i-preserved
 cover_slots-loop-i-preserved g t c =
@@ -106,8 +109,11 @@ cover_slots-loop-i-preserved g t c =
     let w = c.args.first.word in
     let d = c.args.depth in
     let i = c.loop-i.i in
-    laid-next m _ (slots_to m d s w i) (cover_below m d (slot s (w + i))) c.args.cells.now c.loop-i.cells _
-    (slots-next m d s w i) c.loop-i.invariant c.cover_slot.ensures
+    record {
+      cells = laid-next m _ (slots_to m d s w i) (cover_below m d (slot s (w + i))) c.args.cells.now c.loop-i.cells _
+          (slots-next m d s w i) c.loop-i.invariant.cells c.cover_slot.ensures.cells;
+      known = c.cover_slot.ensures.known;
+    }
 
 pub cover_row_slots-cover_slots-requires : goal.cover_row_slots-cover_slots-requires
 cover_row_slots-cover_slots-requires g t c κs within =
@@ -141,9 +147,10 @@ cover_row_slots-loop-row-preserved g t c =
     let v = c.loop-row.invariant in
     let n = v.next in
     let k : (i + 1) * (a + b) ≡ i * (a + b) + (a + b) = omega arith in
-    let one = rw n at c.cover_slots.ensures in
+    let one = rw n at c.cover_slots.ensures.cells in
     record {
       next = omega arith;
       cells = laid-next m _ (rows_to m d s w a b i) (row_slots m d s w a b i) c.args.cells.now c.loop-row.cells _
           (rows-next m d s w a b i) v.cells one;
+      known = c.cover_slots.ensures.known;
     }

@@ -1,5 +1,6 @@
 use Rattle.std.proofs.Common.{◌≡◌, ◌+◌, ◌*◌}
 use Rattle.capn_walk.specs.Visits.{places, row_places}
+use Rattle.capn_cover.specs.inner.Known.{AreKnownTogether}
 use Rattle.capn_cover.specs.inner.Laid.{laid, cover_of}
 use Rattle.capn_cover.proofs.cover_visits.+cover_slots.Given as goal
 
@@ -18,11 +19,15 @@ decreases-cover_object_slots g l = 4 * l.depth + 3
 abbrev pub invariant-cover_slots-loop-i : goal.invariant-cover_slots-loop-i
 invariant-cover_slots-loop-i g l =
     let m = g.S.Space.message l.space in
-    l.cells ≡ laid m (cover_of m l.depth (places l.first.segment l.first.word l.i)) l.initial.cells
+    record {
+      cells : l.cells ≡ laid m (cover_of m l.depth (places l.first.segment l.first.word l.i)) l.initial.cells;
+      known : AreKnownTogether m l.cells;
+    }
 
 abbrev pub invariant-cover_row_slots-loop-row : goal.invariant-cover_row_slots-loop-row
 invariant-cover_row_slots-loop-row g l = record {
   next : l.next ≡ l.first.word + l.row * (l.words + l.slots);
   cells : l.cells ≡ laid (g.S.Space.message l.space) (cover_of (g.S.Space.message l.space) l.depth
       (row_places l.first.segment l.first.word l.words l.slots l.row)) l.initial.cells;
+  known : AreKnownTogether (g.S.Space.message l.space) l.cells;
 }
