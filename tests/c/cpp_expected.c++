@@ -127,8 +127,8 @@ static void fields() {
 }
 
 /* Reads a stream that has a rejected message, with two readers. Each reader calls a function that returns the next
- * bytes. The function of the first reader returns a capn::expected. The function of the packed reader returns a
- * std::optional. */
+ * bytes. The function of the first reader returns a capn::expected. The second reader reads packed messages, and its
+ * function returns a std::optional. */
 static void streams() {
     const std::string all = one + hostile + tight + cut;
     std::size_t at = 0;

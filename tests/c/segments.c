@@ -99,7 +99,8 @@ static void held(const uint8_t *frame, size_t size, const capn_limits *limits) {
     for (size_t i = 0; i < made; i++) free(blocks[i]);
 }
 
-/* Makes the calls on segments that no stream can have, and on so many segments that a stream of them would be long. */
+/* Makes the calls on segments that no stream can have. Also makes the calls on MOST + 1 segments, which would make a
+ * long stream. */
 static void borders(void) {
     static const uint8_t words[8 * 1024];
     static capn_segment segments[MOST + 1];

@@ -74,7 +74,7 @@ def segments_of(source):
     segments = archives.good(source)
     segment = source.choice([one for one in segments if one])
     # Takes the greatest of three random indexes. The chosen word is then likely to be near the end of the segment, and
-    # so deep in the message.
+    # therefore deep in the message.
     at = max(source.randrange(len(segment)) for _ in range(3))
     wrong = [3 | source.randrange(4) << 32, generated.pointer(source, len(segment), len(segments))]
     segment[at] = source.choice([*wrong, segment[at] ^ 1 << source.randrange(64)])
