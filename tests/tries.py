@@ -360,9 +360,9 @@ def nearest(crate, names, tried):
 
 
 def calls_reaching(crate, names):
-    """Finds the first program that has test cases for a crate. Returns the program, and the calls of these cases. They
-    are the calls whose modules name the crate. If no module names it, they are the calls whose modules use the crate
-    indirectly."""
+    """Finds the first program that has test cases for a crate. Returns the program, and the calls of these cases. A
+    call is for the crate if the module that makes the call imports the crate. If no module imports the crate, the calls
+    are those of the modules that use it indirectly."""
     for one in stored.CRATES:
         found = dict(crates_of_calls(one))
         if crate == one or crate in names[one] and crate not in set().union(*found.values()):
