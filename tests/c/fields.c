@@ -163,8 +163,8 @@ static uint64_t read_record(const capn_record *record) {
 /* The results are stored here, so that the compiler can't leave out the code that reads. */
 static volatile uint64_t kept;
 
-/* Reads an index entry as a struct, as a text, as data, and as each kind of list. Returns how many of these readings
- * succeed. */
+/* Reads an index entry as a struct, as a text, as data, and as each kind of list. Returns in how many of these ways the
+ * entry can be read. */
 static int read_any(const capn_entry *entry) {
     capn_record record;
     capn_items items;
@@ -325,7 +325,7 @@ static int show_lines(void) {
     return failed != 0;
 }
 
-/* Reads each message of a stream, and prints the message's fields or the number of readings that succeed. */
+/* Reads each message of a stream. Prints the message's fields, or in how many ways its pointers can be read. */
 static int show_stream(const char *as) {
     const int is_any = !strcmp(as, "any");
     const capn_limits limits = CAPN_USUAL_LIMITS;
@@ -402,8 +402,8 @@ static void two_of_zeros(const uint64_t *words, size_t count) {
     want("structs as bits", capn_list(data, capn_slot(&root, 0), CAPN_KIND_BITS, &items), 0);
 }
 
-/* Messages with equal values give equal results. If a struct is too short for a number or a pointer, zero or null is
- * read. */
+/* If two messages have equal values, the test reads equal results from them. If a struct is too short for a number, the
+ * test reads zero. If it is too short for a pointer, the test reads null. */
 static void by_another_schema(void) {
     static const uint64_t a_word[] = {1ull << 48, 0x1700000001, 0x100000008, 0, 0};
     static const uint64_t a_pointer[] = {1ull << 48, 0x1700000001, 0x1000000000008, 0, 0};

@@ -121,7 +121,7 @@ static void indexed(uint32_t form, const uint8_t *bytes, size_t size, capn_statu
     free(all);
 }
 
-/* The calls that report paths must report the same error as capn_check. */
+/* Some calls report the path to an error. They must report the same error as capn_check. */
 static void led(uint32_t form, const uint8_t *bytes, size_t size, capn_status check, const capn_report *checked) {
     static uint32_t way[2 * 256];
     capn_departed departed;
@@ -138,7 +138,7 @@ static void led(uint32_t form, const uint8_t *bytes, size_t size, capn_status ch
 }
 
 /* capn_annotate must report the same as capn_check. The lines must have each word of the message exactly once, in
- * order. For each line, the number of words that aren't zero must be right. */
+ * order. Each line must have the right count of words that aren't zero. */
 static void lined(uint32_t form, const uint8_t *bytes, size_t size, capn_status check, const capn_report *checked) {
     capn_report report;
     const capn_status status = capn_annotate(form, bytes, size, &limits, NULL, 0, &report);

@@ -2,7 +2,7 @@
  * that is passed to a call lies before or after a page that can't be accessed. The input is read-only. The seed is
  * fixed, so each run makes the same calls. The argument is the number of calls. Each line of standard input ends with
  * bytes in hexadecimal. These bytes are also inputs of the calls. The program prints a line with a hash of everything
- * that the calls returned and wrote. Two builds of the library give the same hash. */
+ * that the calls returned and wrote. The hash has to be the same for two builds of the library. */
 #define TEST "guarded"
 #include "wanted.h"
 #include <signal.h>

@@ -145,7 +145,7 @@ static const struct {
 };
 enum { NUMBERS = sizeof numbers / sizeof *numbers };
 
-/* Returns limits whose field at the offset `at` is set to a number. */
+/* Returns the given limits with one change: the field at the offset `at` has the value `number`. */
 static capn_limits with(capn_limits limits, size_t at, uint32_t number) {
     memcpy((uint8_t *)&limits + at, &number, sizeof number);
     return limits;

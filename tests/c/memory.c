@@ -1,6 +1,7 @@
 /* Tests each call of capn.h when one of its allocations fails: the first, the second, and so on. The call has to return
- * CAPN_MEMORY, leave the buffer unchanged, set the report to 0, and free everything. Then every allocation fails, and
- * the test makes the calls that need no allocation. These calls have to return the same as when allocations succeed. */
+ * CAPN_MEMORY, leave the buffer unchanged, set the report to 0, and free everything. Some calls need no allocation. The
+ * test also makes these calls while every allocation fails. They have to return the same as when allocations succeed.
+ * */
 #include "refusing.h"
 #include "usual.h"
 #include <stdio.h>

@@ -227,9 +227,9 @@ class Notes:
                     "" if way is None else explained.dotted(way), text)
 
     def text(self, segment, at, end, kind):
-        """Returns the text of a line, and the number that the line adds to the count `hidden`. A line may also have two
-        endings, about words that canonical bytes leave out and about overlaps. The returned text doesn't have these
-        endings."""
+        """Returns the text of a line, and the number that the line adds to the count `hidden`. The returned text
+        doesn't have the two endings that a line may have. One ending is about words that canonical bytes leave out, and
+        the other is about overlaps."""
         number, size = self.cover.starts[segment] + at, end - at
         word, part = self.value(number), self.cover.parts[number]
         if kind == "null":
@@ -249,8 +249,8 @@ class Notes:
         return f"{size} words, {f'{not_zero} not zero' if not_zero else 'zero'}", not_zero
 
     def listed(self, part, at, end):
-        """Takes a line about a list without pointers. Returns the text of the line, and whether the list has padding
-        that isn't zero."""
+        """Returns the text of a line about a list without pointers, and whether this list has padding that isn't
+        zero."""
         code, count = part.shape[1:]
         width = model.WIDTH_BITS[code]
         text = f"{count} {explained.KINDS[code]}"
