@@ -69,8 +69,8 @@ def all_cases():
 
 
 def asked(cases, before=""):
-    """Returns the input that makes a program answer the given cases. In this input, the text `before` stands before
-    each call."""
+    """Returns the input with which a program answers the given cases. In this input, each call comes after the text
+    `before`."""
     return "".join(f"{case.name}\n{before}{case.call}\n" for case in cases)
 
 

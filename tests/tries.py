@@ -27,14 +27,16 @@ MEMORY = 2
 AT_ONCE = 40
 # The number of seconds that one run of a program may take, even on a busy machine.
 SECONDS = 1200
-# At most this many lines of errors are printed for a crate. So many lines are enough for ten cases.
+# The number of lines of errors that are printed for a crate, at most. This number is enough for the errors of ten
+# cases.
 MOST_LINES = 40
 
 # A job tests a crate. It has the name of the crate, a word that says what is tested, and a function that returns the
 # errors and the output.
 Job = collections.namedtuple("Job", "crate what run")
 # The code of a test file: its crate, its imports from the product, and the words of the rest. `calls` has the words
-# before a parenthesis. `dotted` has those of them that come after a dot. `paths` has the pairs of words around `::`.
+# before a parenthesis. `dotted` has those words of `calls` that come after a dot. `paths` has the pairs of words around
+# `::`.
 Code = collections.namedtuple("Code", "crate imports words calls dotted paths")
 # An exported function, and the crate that exports it. For the calls of c/capn.h, the name of the crate is `c`.
 Function = collections.namedtuple("Function", "crate name")
@@ -55,8 +57,8 @@ def tests_of(crate):
 
 
 def modules_of_calls(crate):
-    """Returns, for each call in the test cases of a crate, the modules that the call depends on. These modules are the
-    call's own module and the modules that this module uses."""
+    """Takes a crate with test cases. For each call of these cases, returns the modules that the call depends on. They
+    are the call's own module and all modules that it uses."""
     folder = os.path.join(TOP, "crates", crate, "src")
     modules = {name[:-3]: text_of("crates", crate, "src", name) for name in os.listdir(folder)}
 
@@ -71,8 +73,8 @@ def modules_of_calls(crate):
 
 
 def crates_of_calls(crate):
-    """Yields each call that has test cases in the given crate, and the crates that the modules of this call import. The
-    answer to the call depends on the imported crates."""
+    """Takes a crate with test cases. Yields each call of these cases, together with the crates that the call's modules
+    import. The answer to the call depends on these imported crates."""
     for word, used in modules_of_calls(crate).items():
         texts = [text_of("crates", crate, "src", f"{one}.rt") for one in used]
         yield word, {name for text in texts for name in re.findall(r"^use (capn_\w+)", text, re.M)}
@@ -121,7 +123,7 @@ def stored_job(crate):
 
 
 def shown(text, at=0):
-    """Returns a text that may be shortened. Of a long text, only the part around the index `at` is returned."""
+    """Returns a text. If the text is long, returns only the part around the index `at`."""
     begin = max(0, at - 100)
     end = begin + 400
     return f"{'..' * (begin > 0)}{text[begin:end]}{'..' * (end < len(text))}"
@@ -302,8 +304,8 @@ def naming(function):
 
 
 def jobs_naming(files):
-    """Yields the jobs of the given test files. The jobs run the tests of the files' crates, and the test cases that the
-    files answer."""
+    """Yields the jobs for the given test files. The jobs run all tests of the files' crates, and those test cases whose
+    calls depend on one of the files."""
     for crate in sorted({file.split("/")[1] for file in files}):
         if tests_of(crate):
             yield tests_job(crate)
@@ -360,9 +362,9 @@ def nearest(crate, names, tried):
 
 
 def calls_reaching(crate, names):
-    """Finds the first program that has test cases for a crate. Returns the program, and the calls of these cases. A
-    call is for the crate if the module that makes the call imports the crate. If no module imports the crate, the calls
-    are those of the modules that use it indirectly."""
+    """Finds the first program with a call that uses the given crate. Returns the program, and all its calls that use
+    the crate. A call uses the crate if one of the call's modules imports it. If no module of the program imports the
+    crate, a module that imports it indirectly is enough."""
     for one in stored.CRATES:
         found = dict(crates_of_calls(one))
         if crate == one or crate in names[one] and crate not in set().union(*found.values()):
@@ -375,7 +377,7 @@ def calls_reaching(crate, names):
 
 
 def reaching(crate):
-    """Returns what has to run so that a crate is tested: the crates of tests that are the fewest steps away from the
-    crate, a program with test cases, and the calls of these cases."""
+    """Returns what has to run so that a crate is tested. This is three items: the crates of tests that are the fewest
+    steps away from the crate, a program with test cases, and the calls of these cases."""
     names = proving.crates()
     return nearest(crate, names, [it for it in names if tests_of(it)]), *calls_reaching(crate, names)

@@ -15,8 +15,8 @@ CALLS = re.compile(
 
 
 def stored():
-    """Yields each stored test case with its result. A case has three lines. The second line is the call, and the third
-    line is the result."""
+    """Yields the call and the result of each stored test case. A case has three lines. The second line is the call, and
+    the third line is the result."""
     for file in sorted(CRATES.glob("conformance_*/cases/*")):
         for one in file.read_text().removesuffix("\n").split("\n\n"):
             _, case, answer = one.splitlines()
@@ -86,9 +86,8 @@ class Stored(unittest.TestCase):
         answered = cases()
         self.assertGreater(len(answered), 500)
         for case, wanted in answered:
-            # There are two differences between the stored results and those of the library. The stored result of a
-            # check says at its end whether the message has a capability. A stored error of unpacking lacks the prefix
-            # `packed: `.
+            # The results of the library differ from the stored results in two points. The stored result of a check says
+            # at its end whether the message has a capability. A stored error of unpacking lacks the prefix `packed: `.
             wanted = re.sub(r", (no capability|capability \d+)$", "", wanted)
             wanted = re.sub(r"^(Cut|TooLong) at", r"packed: \g<0>", wanted)
             with self.subTest(case=case):

@@ -185,7 +185,7 @@ class Schemas(unittest.TestCase):
         self.assertEqual((len(rows), rows[-1].uint(16, 0), rows[0].uint(16, 1, 9), rows[0].text(0, "none")),
                          (2, 1, 9, "none"))
         self.assertEqual([row.word(0) for row in rows[1:]], [1])
-        # The sender chooses how many elements a list has. So the exception for a missing element is also a
+        # The sender decides how many elements a list has. So if an element is missing, the exception is also a
         # `ValueError`.
         null, numbers = of(None), of(("rows", 1, 1, [([5], [None])]))
         for wrong in (lambda: rows[2], lambda: null.list()[0], lambda: null.rows()[0], lambda: null.numbers(16)[0],
@@ -237,8 +237,7 @@ class Schemas(unittest.TestCase):
                 self.assertRaises(capn.Mismatch, wrong)
 
     def test_texts_and_data(self):
-        # An exception that the sender causes is always a `Mismatch`. Besides `Mismatch`, this exception may have other
-        # base classes.
+        # An exception that the sender causes is always a `Mismatch`, though its class may also have other base classes.
         values = [None, ("struct", [1], [None]), ("list", 0, 3, b""), ("list", 1, 3, bytes(8)), text("abc"),
                   ("list", 3, 1, bytes(8)), ("pointers", [None]), ("rows", 1, 1, [([5], [None])]),
                   ("list", 2, 3, b"abc" + bytes(5)), ("list", 2, 0, b""), ("list", 2, 3, b"\xff\xfe\0" + bytes(5))]

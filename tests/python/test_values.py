@@ -221,7 +221,7 @@ class Objects(unittest.TestCase):
 
 
 class Fields(unittest.TestCase):
-    """Tests the fields of messages that the tool `capnp` writes with a schema. The test reads the fields of the same
+    """Tests the fields of messages that the tool `capnp` writes with a schema. The test reads these fields by the same
     schema."""
 
     def encoded(self, kind, written):

@@ -28,7 +28,7 @@ static std::mt19937_64 source;
 
 static unsigned below(unsigned most) { return unsigned(source() % most); }
 
-// Returns a number without the bits that don't fit into an element of the given kind of list.
+// Returns the lowest bits of a number: as many as an element has in the given kind of list.
 static uint64_t cut(Kind kind, uint64_t number) {
   switch (kind) {
     case VOIDS: return 0;
@@ -119,7 +119,8 @@ public:
       case ROWS: putRows(value, to); break;
     }
     if (spare > 0 && below(6) == 0) {
-      // Takes the object out of its pointer, makes another object and drops it, and puts the first object back.
+      // Detaches the object from its pointer. Makes another object, and drops this other object. Then attaches the
+      // first object to the pointer again.
       auto moved = to.disown();
       waste(to);
       to.adopt(kj::mv(moved));
