@@ -153,8 +153,8 @@ def cases_job(crate, cases):
         with tempfile.TemporaryDirectory() as folder:
             for number, part in enumerate(parts):
                 with open(os.path.join(folder, f"{number:04}"), "w", encoding="utf-8") as file:
-                    # The word `few` makes only some allocations of each call fail. In `make test`, which runs the
-                    # compiled code, each allocation fails in turn.
+                    # With the word `few`, a test makes some of the allocations of each call fail, and not all of them.
+                    # In `make test`, which runs the compiled code, each allocation fails in turn.
                     file.write(stored.asked(part, "few "))
             # `rt try` interprets the program. The interpreter can't run code that allocates memory from the system.
             status, out, said = try_crate(crate, ["--steps", "1", "--seconds", str(SECONDS), "--cases", folder])
@@ -222,8 +222,8 @@ def methods(crate, types):
 
 def exported():
     """Yields each function that a crate of the product (capn*) exports, each public function of a type that it exports,
-    and each call of c/capn.h. Leaves out the laws, and what the crate only exports again from another crate of the
-    product."""
+    and each call of c/capn.h. Leaves out the laws. Also leaves out what the crate imports from another crate of the
+    product and then exports again."""
     for crate in product():
         own = [name for path, name in items(crate) if path.split("::")[0] not in product()]
         yield from (Function(crate, name) for name in dict.fromkeys(own) if name[0].islower())
@@ -285,8 +285,8 @@ def providers(crate, name):
 
 def is_named(function, file):
     """Tests whether a test file uses an exported function. The file has to import the function, or the type of a
-    method, from a crate that exports it. The name also has to occur once more, outside of the import. A name that comes
-    after the name of a module counts, too."""
+    method, from a crate that exports it. The name also has to occur once more, outside of the import. It may also occur
+    after the name of an imported module, as in `MODULE::NAME`."""
     if function.crate == "c":
         return not file.crate and function.name in file.calls
     item, _, method = function.name.partition("::")

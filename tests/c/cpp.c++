@@ -110,8 +110,8 @@ static void answers() {
     want("limits of words", capn::is_canonical_words(loose, {}) && thrown<capn::refusal>([&] {
                                 (void)capn::is_canonical_words(loose, few);
                             }) == "OverBudget at 0:0, paid 0, visits 1");
-    /* One overload of `is_canonical` has no argument for the form (stream, packed or bare). It is deprecated, but it
-     * still works. It takes the bytes as a single segment without a segment table. */
+    /* One overload of `is_canonical` has no argument for the form (stream, packed or bare). This overload is
+     * deprecated, but it still works. It takes the bytes as a single segment without a segment table. */
 #if defined(__GNUC__)
 #pragma GCC diagnostic push
 #pragma GCC diagnostic ignored "-Wdeprecated-declarations"
@@ -297,7 +297,8 @@ static void ways() {
     want("none of a refused one", thrown<capn::refusal>([] { capn::departure(cut); }) == "frame: Cut");
 }
 
-/* Returns a line of capn::annotate as text. For the kind of the line, the text has the same name as `capn annotate`. */
+/* Returns a line of capn::annotate as text. The text names the kind of the line with the word that `capn annotate`
+ * prints for this kind. */
 static std::string told(const capn::line &line) {
     static const char *const kinds[] = {"pointer", "null", "pad", "tag", "data", "list", "slack", "unreached"};
     const auto of = [](capn::place at) { return std::to_string(at.segment) + ":" + std::to_string(at.word); };

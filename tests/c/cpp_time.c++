@@ -21,8 +21,8 @@ template <class Call> double once(unsigned times, Call call) {
     return took.count() / times;
 }
 template <class C, class Plus> void beside(const char *name, std::size_t size, C c, Plus plus) {
-    /* The rounds are short, so most of them run without an interruption. As long as the time of capn.hpp is above the
-     * limit, more rounds are run. */
+    /* The rounds are short, so most of them run without an interruption. As long as capn.hpp is slower than the limit
+     * allows, the program runs more rounds. */
     const unsigned times = static_cast<unsigned>(1 + 200 / (1 + once(3, c) / 1000));
     double least = 1e18, least_plus = 1e18;
     for (int attempt = 0; attempt < 20 && (attempt == 0 || least_plus > most * least); attempt++)

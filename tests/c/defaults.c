@@ -83,8 +83,8 @@ enum { CALLS = sizeof calls / sizeof *calls };
 
 static unsigned long long answered, refused;
 
-/* Makes the same call several times. In the first call, no pointer is null. In the later calls, each combination of the
- * pointers is null. */
+/* Makes the same call several times. In the first call, no pointer is null. Each later call has another combination of
+ * null pointers. */
 static void compare(size_t call, uint32_t form, const uint8_t *bytes, size_t size) {
     static struct given with, without;
     capn_report wanted, got;

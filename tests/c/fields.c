@@ -375,8 +375,9 @@ static size_t message(uint8_t *to, const uint64_t *words, size_t count) {
     return 8 + 8 * count;
 }
 
-/* Tests a message whose root has one pointer, which refers to a list of two structs. Each struct has a zero word or a
- * null pointer, or is empty. A reader with an older schema reads numbers or pointers from the list. */
+/* Tests a message whose root has one pointer, which refers to a list of two structs. Each struct has a zero word, or a
+ * null pointer, or neither. The test reads the list as numbers and as pointers, as a program with an older schema does.
+ * */
 static void two_of_zeros(const uint64_t *words, size_t count) {
     uint8_t data[64];
     capn_entry all[8];
@@ -437,7 +438,8 @@ static void by_hand(void) {
     want("what is stored for 7", (int64_t)of_words(1, 0), 7);
     want("no word", (int64_t)of_words(0, 0), 7);
 
-    /* Reads fields of each width at each bit of two words. Compares each field with its single bits. */
+    /* Takes two words. Reads a field of each width at each bit of the words, and compares it with the bits that it
+     * consists of. */
     uint8_t data[16];
     for (int i = 0; i < 16; i++) data[i] = (uint8_t)(37 * i + 11 * i * i + 201);
     capn_record record = {data, NULL, 128, 0};
@@ -455,7 +457,7 @@ static void by_hand(void) {
         }
     want("far beyond", (int64_t)capn_field(&record, UINT32_MAX, 64, 9), 9);
 
-    /* Tests the number of index entries that a message needs. An array with fewer entries isn't enough. */
+    /* Tests how many index entries the calls report for a message. An array of fewer entries must not be enough. */
     static const uint8_t nested[] = {0, 0, 0, 0, 4, 0, 0, 0, 0, 0, 0, 0, 0, 0, 2, 0, 4, 0, 0, 0, 0, 0, 1, 0,
                                      0, 0, 0, 0, 0, 0, 0, 0, 0, 0, 0, 0, 0, 0, 0, 0};
     const capn_limits usual = CAPN_USUAL_LIMITS;

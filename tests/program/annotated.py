@@ -20,8 +20,9 @@ import model
 KINDS = ["pointer", "null", "pad", "tag", "data", "list", "slack", "unreached"]
 # A line quotes at most this many bytes of a list.
 QUOTED = 32
-# All words of a line have the same kind, belong to the same visit, and are covered equally often. A line ends before
-# the first word that differs in one of these properties. A line of a kind in ALONE has only one word.
+# The words of a line have three properties in common: their kind, the visit that they belong to, and how often they are
+# covered. A line ends before the first word that differs in one of these properties. A line of a kind in ALONE has only
+# one word.
 ALONE = ("pointer", "pad", "tag")
 
 # An object, or a landing pad: the path to the pointer that leads to it, the segment and the index of its first word,

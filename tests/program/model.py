@@ -468,8 +468,8 @@ def text_of(items):
 
 
 def plain_of(value, with_texts):
-    """Returns a value as an object that the module `json` can write. If `with_texts` is true, each list of bytes that
-    is a text becomes a string."""
+    """Returns a value as an object that the module `json` can write. If `with_texts` is true, a list of bytes becomes a
+    string if it is a text."""
     kind = value[0]
     if kind == "null":
         return None

@@ -109,7 +109,8 @@ class Annotated(unittest.TestCase):
         self.assertEqual([kind.name.lower() for kind in LineKind], annotated.KINDS)
 
     def test_many_lines(self):
-        # A struct of many pointers, each to an empty struct: each word has a line.
+        # The message is a struct of many pointers. Each pointer refers to an empty struct. Each word of the message has
+        # a line of its own.
         count = 5_000
         data = (count << 48).to_bytes(8, "little") + (0xFFFFFFFC).to_bytes(8, "little") * count
         lines = capn.annotate(data, "bare")

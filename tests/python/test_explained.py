@@ -210,8 +210,8 @@ class AsExplained(unittest.TestCase):
                     name, bound = limit_of(option, value)
                     bounds[name] = bound
             told = said(bytes.fromhex(answer.split(", ")[1].replace("-", "")))
-            # Some errors have lines only in the program: those about a segment table, packed bytes, a length, or the
-            # number of messages. Leaves out cases with such an error.
+            # Only the program explains errors of a segment table, of packed bytes, of a length, and of the number of
+            # messages. Leaves out test cases with such an error.
             if "accepted" not in told and "way" not in told:
                 continue
             with self.subTest(case=case):

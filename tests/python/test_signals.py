@@ -182,8 +182,8 @@ class Loops(unittest.TestCase):
                 is_in_loop = False
                 raise Interrupted
 
-        # The timer counts the processor time of this process. So there is time for calls between two signals, even if
-        # the machine is busy.
+        # The timer counts the processor time of this process. So even on a busy machine, this process has time for
+        # calls between two signals.
         before = signal.signal(signal.SIGVTALRM, handler)
         messages = [stream((2 << 32).to_bytes(8, "little") + number.to_bytes(16, "little")) for number in range(20000)]
         try:

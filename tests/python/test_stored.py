@@ -8,8 +8,8 @@ import capn
 CRATES = Path(__file__).resolve().parents[2] / "crates"
 CALLS = re.compile(
     r"(plain )?(canonicalise|is_canonical|survey|pack|unpack) .*|run \d+ hash --form (bare|stream) (?!--).*"
-    # Matches a test case with a packed stream only if its output is a line of 65 bytes. This line is one digest, so the
-    # stream has only one message.
+    # Matches a test case with a packed stream of one message. The output of such a case is one digest: a line of 65
+    # bytes.
     r"|run \d+ hash --form packed (?!--)[^|]*\|status 0, [0-9a-f]{130}"
 )
 
@@ -24,8 +24,8 @@ def stored():
 
 
 def cases():
-    """Returns the stored test cases that a call of the Python package can run, each with its result. The other cases
-    are only for the program or for the crates."""
+    """Returns the stored test cases that a call of the Python package can run, each with its result. Leaves out the
+    cases that need the program or a crate."""
     return [both for both in stored() if CALLS.fullmatch("|".join(both))]
 
 

@@ -220,8 +220,8 @@ class Schemas(unittest.TestCase):
         self.assertEqual(capn.read(message, "bare").root.struct().slot(0).rows()[0].uint(16, 0, default=7), 7)
 
     def test_structs_without_words_are_zeros_and_without_pointers_nulls(self):
-        # `long` is a list of two structs, which have one zero word each. `short` has the canonical bytes of `long`, in
-        # which the structs have no words.
+        # The message `long` is a list of two structs, which have one zero word each. The message `short` is the
+        # canonical bytes of `long`. Its structs have no words.
         long = [0x1000000000000, 0x1700000001, 0x100000008, 0, 0]
         short = [0x1000000000000, 0x700000001, 0x8]
         messages = [b"".join(word.to_bytes(8, "little") for word in words) for words in (long, short)]

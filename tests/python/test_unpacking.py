@@ -91,8 +91,8 @@ class Splitters(unittest.TestCase):
         self.assertLess(took, 16 * MIB)
 
     def test_as_many_as_were_fed_come_at_once(self):
-        # Packed bytes of ordinary messages unpack to about as many bytes as these. So one call returns all messages in
-        # these bytes.
+        # These packed bytes unpack to about as many bytes as an ordinary packed stream does. So one call returns all
+        # messages in them.
         source = random.Random(5)
         parts = [stream(source.randbytes(8 * source.randint(0, 40))) for _ in range(60_000)]
         splitter = capn.Splitter("packed")

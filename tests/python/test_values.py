@@ -213,8 +213,8 @@ class Objects(unittest.TestCase):
             (lambda i: rows_of[i].words[0], lambda i: root.slots[0][i].words[0]),
             (lambda i: items[i][0], lambda i: root.slots[1][i][0]),
         ]:
-            # The list of the 3,000 offsets is made only once. If each access made the list again, the loop would take
-            # over 100 times as long.
+            # The package makes the list of the 3,000 offsets once, and not at each access. Otherwise the loop would
+            # take over 100 times as long.
             self.assertLess(seconds(again), 20 * seconds(held) + 0.05)
         self.assertEqual([root.slots[0][i].words[0] for i in range(3000)], list(range(3000)))
         self.assertEqual(rows_of[2999].slots[0].text(), "a")

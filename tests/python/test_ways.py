@@ -55,8 +55,8 @@ class Refusals(unittest.TestCase):
         self.assertEqual(stop_of(capn.Refusal("Range at 0:3, paid 0, visits 0", "Range", (0, 3))), (None, None))
 
     def test_of_a_stream(self):
-        # The attribute `byte` counts from the start of the rejected message. The attribute `offset` is the offset of
-        # this message in the stream.
+        # The attribute `byte` is an offset from the start of the rejected message. The attribute `offset` is the offset
+        # of this message in the stream.
         good = stream(bytes(8))
         for packed in False, True:
             data = good * 2 + REFUSED + good

@@ -1,9 +1,9 @@
 // Writes pairs of messages with builders of the reference implementation. `pairs SEED COUNT` writes the pairs as a
 // stream, which is the same in every run. In a pair with an even number, the two messages have one value in two
-// layouts. In a pair with an odd number, the values of the two messages differ in one place. Layouts differ in the
-// sizes of structs, in lists and elsewhere, as they do between an older and a newer schema. They also differ in the
-// order of objects, in the sizes of segments and so in the far pointers, and in the gaps where an object was moved or
-// dropped.
+// layouts. In a pair with an odd number, the values of the two messages differ in one place. Two layouts differ in the
+// sizes of structs, as between an older and a newer schema. Structs in lists differ in this way, too. Two layouts also
+// differ in the order of objects, in the sizes of segments, in the far pointers, and in the gaps where an object was
+// moved or dropped.
 #include <capnp/any.h>
 #include <capnp/message.h>
 #include <capnp/orphan.h>
