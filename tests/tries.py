@@ -203,8 +203,8 @@ def items(crate):
         return ()
     modules = re.findall(r"^pub mod (\w+);", text_of("crates", crate, "src", "lib.rt"), re.M)
     if crate == proving.LIBRARY:
-        # The library for C exports its calls, and laws about these calls. Neither is returned here, because c/capn.h
-        # declares the calls.
+        # The library for C exports its calls, and laws about these calls. This function leaves out both, because
+        # c/capn.h declares the calls.
         return ()
     modules = ["lib", *(it for it in modules if it != "laws")]
     return tuple(dict.fromkeys(it for module in modules for it in items_of(crate, module)))

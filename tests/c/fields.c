@@ -16,7 +16,7 @@
  *   - for a text and for data, the length and the bytes; a null pointer has the default text `none`
  *   - for a list of elements without size, the length
  *   - for a list of numbers, the length, and the first thousand numbers
- *   - for a list of pointers, the length, and the numbers of the kinds of the first twenty pointers
+ *   - for a list of pointers, the length, and a number for the kind of each of the first twenty pointers
  *   - for a list of structs, the length, and the numbers of the first twenty structs */
 
 /* The command `fields lines` prints these numbers for a struct, in this order:

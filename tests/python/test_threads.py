@@ -257,7 +257,7 @@ class TwoTasks(unittest.TestCase):
             reader.feed_data(capn.pack(first + second) if packed else first + second)
             reader.feed_eof()
             self.assertEqual([await waits, await anext(found)], [first, second])
-            # After its last message, the stream ends.
+            # The stream ends after its last message.
             with self.assertRaises(StopAsyncIteration):
                 await anext(found)
 

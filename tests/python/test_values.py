@@ -250,7 +250,8 @@ class Fields(unittest.TestCase):
     def test_defaults(self):
         for kind in "Old", "New":
             self.assertEqual(self.fields(self.encoded(kind, "()")), self.USUAL)
-        # Reads structs without pointers and with too few words for their type. Each field has its default.
+        # Reads structs that have no pointers, and fewer words than their type. The result for each field is its
+        # default.
         for words in range(7):
             root = capn.read(bare(("struct", [0] * words, [])), "bare").root
             self.assertEqual(self.fields(root), self.USUAL)
