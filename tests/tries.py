@@ -19,8 +19,8 @@ sys.path.insert(0, os.path.join(TOP, ".ci"))
 import proving
 
 LOG = "build/tries.log"
-# The most memory that one run of `rt try` uses, in GiB. This includes the memory of its compiler and of the check of
-# names that runs beside it.
+# The most memory that one run of `rt try` uses, in GiB. This includes the memory of the compiler. It also includes that
+# of the check of names, which runs at the same time.
 MEMORY = 2
 # The number of test cases that one run of a program gets. The number is small, because the program may end at a case.
 # The remaining cases of the run are then not tried.

@@ -1,4 +1,4 @@
-// Compares the time of each call of capn.hpp with the time of the same call in C.
+// For each call of capn.hpp, compares its time with that of the same call in C.
 //
 // Each function of capn.hpp calls functions of capn.h. cpp_time [MOST] fails if a call of a capn.hpp function takes
 // more than MOST times as long as the same calls of capn.h without capn.hpp. It compares the shortest times of many

@@ -21,8 +21,8 @@ static void need(int holds, const char *what, const uint8_t *bytes, size_t size)
     abort();
 }
 
-/* Tests a message that capn_check accepts. capn_canonical, capn_hash and capn_is_canonical have to agree on its
- * canonical bytes and on its cost. */
+/* Tests a message that capn_check accepts. capn_canonical, capn_hash and capn_is_canonical have to agree on the
+ * message's canonical bytes and on its cost. */
 static void accepted(uint32_t form, const uint8_t *bytes, size_t size, const capn_report *checked, size_t enough) {
     uint8_t *out = malloc(enough), digest[2][32];
     capn_report report;

@@ -90,8 +90,8 @@ class Cover:
             size = data + slots
             part = Part(way, segment, begin, ("rows", count, rows, data, slots))
             self.cover(part, visit, segment, begin, 1, "tag")
-            # The words of all structs of the list are covered before the pointers in these structs are visited. The
-            # visits cover their words in preorder.
+            # The words of all structs of the list are covered before any pointer in these structs is followed. Pointers
+            # are followed in preorder.
             for i in range(rows if size else 0):
                 self.cells(part, visit, begin + 1 + i * size, data, slots)
             self.cover(part, visit, segment, begin + 1 + rows * size, count - rows * size, "slack")

@@ -51,7 +51,7 @@ INPUTS = [
 COUNTS = [9, 70, 17, 9, 5, 3, 3, 5]
 # The highest bit of the element count in the tag word of a list of structs.
 HIGHEST = 1 << 31
-# For each kind of list, the number of bits of an element.
+# For each kind of list, the number of bits in one element.
 BITS = [0, 1, 8, 16, 32, 64]
 TEXTS = [b"\0", b"abc\0", "grün\0".encode(), b"\xff\xfe\0", b"no zero", b"a\0b\0"]
 # Limits of a call: the words of a message, the budget and the depth.

@@ -25,7 +25,7 @@ GIB = 1 << 30
 
 
 class AfterAnException(unittest.TestCase):
-    """Tests that neither an exception nor its traceback keeps the caller's buffer."""
+    """Tests that neither an exception nor its traceback keeps a reference to the caller's buffer."""
 
     def calls(self, data):
         """Yields calls that read the caller's bytes in place and raise an exception."""

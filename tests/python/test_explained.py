@@ -210,8 +210,8 @@ class AsExplained(unittest.TestCase):
                     name, bound = limit_of(option, value)
                     bounds[name] = bound
             told = said(bytes.fromhex(answer.split(", ")[1].replace("-", "")))
-            # Only the program explains errors of a segment table, of packed bytes, of a length, and of the number of
-            # messages. Leaves out test cases with such an error.
+            # Some errors are explained only by the program. They are errors in a segment table, in packed bytes, in a
+            # length, or in the number of messages. Leaves out test cases with such an error.
             if "accepted" not in told and "way" not in told:
                 continue
             with self.subTest(case=case):
