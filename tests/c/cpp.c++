@@ -455,7 +455,8 @@ static void streams() {
  * write. */
 static void readers() {
     /* The reader calls a function for bytes. On the first call, the function writes the segment table. On the second
-     * call, the function returns a number that is too large, such as the -1 of a system call that failed. */
+     * call, the function returns a number that is too large. One such number is the -1 of a failed system call, since
+     * -1 is a very large number without a sign. */
     const std::string all = one + one;
     for (const std::size_t wrong : {static_cast<std::size_t>(-1), std::size_t{25}, std::size_t{1} << 20}) {
         std::size_t at = 0, calls = 0;

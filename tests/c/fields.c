@@ -297,8 +297,8 @@ static uint8_t *alone(const uint8_t *from, size_t size) {
     return message;
 }
 
-/* Prints a line for each pointer of the messages that generated.py wrote. The length of each message comes before the
- * message. */
+/* Prints a line for each pointer of the messages that generated.py wrote. In the input, the length of each message
+ * comes before the message. */
 static int show_lines(void) {
     size_t have;
     uint8_t *all = all_of_input(&have);

@@ -163,7 +163,7 @@ static void store(char *line) {
 
 static uint8_t *of_input, *of_limits, *of_out, *of_report, *of_other;
 
-/* The memory that the current call may write, and a hash. The hash is FNV-1a over everything that all calls returned
+/* The memory for the output of the current call, and a hash. The hash is FNV-1a over everything that all calls returned
  * and wrote. */
 static struct { const uint8_t *bytes; size_t size; } written[4];
 static uint32_t written_count;
@@ -180,8 +180,8 @@ static void add_answer(capn_status answered) {
     for (uint32_t i = 0; i < written_count; i++) add(written[i].bytes, written[i].size);
 }
 
-/* Fills the memory that a call may write with a pattern. Bytes that the call doesn't write must still have the pattern
- * afterwards. */
+/* Takes a piece of memory for the output of a call, and fills it with a pattern. After the call, the bytes that the
+ * call didn't write must still have the pattern. */
 static uint8_t *filled(uint8_t *start, size_t size) {
     uint8_t *out = part(start, size);
     if (size) memset(out, FILL, size);

@@ -468,8 +468,8 @@ def text_of(items):
 
 
 def plain_of(value, with_texts):
-    """Returns a value as an object that the module `json` can write. If `with_texts` is true, a list of bytes becomes a
-    string if it is a text."""
+    """Returns a value as an object that the module `json` can write. If `with_texts` is true, lists of bytes that are
+    texts become strings."""
     kind = value[0]
     if kind == "null":
         return None

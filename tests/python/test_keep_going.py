@@ -1,5 +1,5 @@
 """Tests the option `keep_going` on streams with rejected messages. With this option, a reader also returns the messages
-after a rejected message. The reader has the number and the offset of each message."""
+after a rejected message. The reader also reports the number and the offset of each message."""
 import asyncio
 import io
 import random

@@ -798,8 +798,8 @@ class Splitters(unittest.TestCase):
         refusals = []
 
         def once(call):
-            """Returns a function that makes the given call and returns its status. Only when the call succeeds for the
-            first time, the function returns the status for out of memory instead."""
+            """Returns a function that makes the given call and returns its status. There is one exception: when the
+            call succeeds for the first time, the function returns the status for out of memory."""
             def little(*words):
                 status = call(*words)
                 if status == 0 and not refusals:
