@@ -139,8 +139,8 @@ static void answers() {
     want("no more room than needed", small.size() == 8 && small.capacity() < 128);
     want("no more of a packed one", capn::canonical(capn::pack(one), form::packed).capacity() < 128);
     want("no more of a text", capn::show(null_root).capacity() < 128);
-    /* This message has 4 GiB, which is over the limit. The call has to reject it before it allocates memory for it. All
-     * pages of the message map the same page of zeros. */
+    /* This message has 4 GiB, which is over the limit. The call has to reject the message, and must not allocate memory
+     * of this size. All pages of the message map the same page of zeros. */
     const std::size_t huge = std::size_t{1} << 32;
     void *const pages = mmap(nullptr, huge, PROT_READ, MAP_PRIVATE | MAP_ANONYMOUS | MAP_NORESERVE, -1, 0);
     want("pages", pages != MAP_FAILED);
@@ -455,8 +455,8 @@ static void streams() {
  * write. */
 static void readers() {
     /* The reader calls a function for bytes. On the first call, the function writes the segment table. On the second
-     * call, the function returns a number that is too large. One such number is the -1 of a failed system call, since
-     * -1 is a very large number without a sign. */
+     * call, the function returns a number that is too large. One such number is the -1 of a failed system call, because
+     * -1 is very large as an unsigned number. */
     const std::string all = one + one;
     for (const std::size_t wrong : {static_cast<std::size_t>(-1), std::size_t{25}, std::size_t{1} << 20}) {
         std::size_t at = 0, calls = 0;

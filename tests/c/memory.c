@@ -233,8 +233,8 @@ static void at_depth(uint32_t most, size_t depth, uint32_t wanted) {
 }
 
 /* Tests calls that return before they store anything. These calls need no memory. They get an empty input, or a length
- * that isn't a multiple of 8. They also get packed bytes with a truncated or too long first group, and segment tables
- * that are truncated or announce too much. */
+ * that isn't a multiple of 8. They also get packed bytes whose first group is truncated or too long. Other inputs are a
+ * truncated segment table, and one that announces too much. */
 static void unread(void) {
     const uint8_t cut[9] = {255}, head[8] = {1, 0, 0, 0, 1}, count[8] = {255, 255}, whole[16] = {1}, sizes[264] = {64};
     const input nothing = {CAPN_STREAM, NULL, 0, usual}, odd = {CAPN_BARE, cut, 9, usual};

@@ -46,8 +46,8 @@ def of_list(items, most, of_each):
 
 
 def text_of(found):
-    """Returns the bytes of a text, without its last zero byte. Like the C library, it also returns bytes that aren't
-    UTF-8."""
+    """Returns the bytes of a text, without its last zero byte. Like the C library, this function also returns bytes
+    that aren't UTF-8."""
     if not isinstance(found, (capn.Null, capn.Bytes)):
         raise capn.Mismatch(f"there is no text, but {found!r}")
     try:

@@ -153,7 +153,7 @@ class Memory(unittest.TestCase):
 
 
 def long():
-    """Makes calls on a file of 5 GiB, while the process may use 8 GiB of address space."""
+    """Limits the address space of the process to 8 GiB, and makes calls on a file of 5 GiB."""
     import resource
 
     with tempfile.TemporaryFile() as file:

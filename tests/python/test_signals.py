@@ -66,7 +66,7 @@ class EachCall(unittest.TestCase):
     time it is a later call."""
 
     def files(self, data, folder):
-        """Yields functions that each make a file with the given bytes. The kinds of files differ."""
+        """Yields several functions. Each of them makes another kind of file with the given bytes."""
         path = os.path.join(folder, "file")
         with open(path, "wb") as file:
             file.write(data)

@@ -142,8 +142,8 @@ class Schemas(unittest.TestCase):
             (("pointers", [text("abc"), None]), [(0, "bytes"), (0, "null")], None, ["bytes", "null"]),
             (("rows", 1, 2, [([0x10003], [None, None]), ([4], [text("abc"), None])]), [(3, "null"), (4, "bytes")],
              [3, 4], ["null", "bytes"]),
-            # From a struct without words, the default is read as its number. From a struct without pointers, null is
-            # read as its pointer.
+            # If a struct has no words, the test reads the default as its number. If the struct has no pointers, the
+            # test reads null as its pointer.
             (("rows", 1, 0, [([5], [])]), [(5, "null")], [5], ["null"]),
             (("rows", 0, 1, [([], [text("abc")])]), [(0, "bytes")], [0], ["bytes"]),
             (("rows", 0, 0, [([], [])] * 2), [(0, "null")] * 2, [0, 0], ["null", "null"]),
