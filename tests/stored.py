@@ -19,7 +19,8 @@ Case = collections.namedtuple("Case", "crate path name call answer")
 
 
 def word_of(call):
-    """Returns the name of a call: the first word of its line, or the word after `plain`."""
+    """Returns the name of a call. The name is the first word of the line. If this word is `plain`, the name is the
+    second word."""
     words = call.split(" ")
     return words[1] if words[0] == "plain" and len(words) > 1 else words[0]
 
@@ -69,8 +70,8 @@ def all_cases():
 
 
 def asked(cases, before=""):
-    """Returns the input that makes a program answer the given cases. In this input, the text `before` stands before
-    each call."""
+    """Returns the input with which a program answers the given cases. In this input, each call comes after the text
+    `before`."""
     return "".join(f"{case.name}\n{before}{case.call}\n" for case in cases)
 
 

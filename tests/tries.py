@@ -19,22 +19,24 @@ sys.path.insert(0, os.path.join(TOP, ".ci"))
 import proving
 
 LOG = "build/tries.log"
-# The most memory that one run of `rt try` uses, in GiB. This includes the memory of its compiler and of the check of
-# names that runs beside it.
+# The most memory that one run of `rt try` uses, in GiB. This includes the memory of the compiler. It also includes that
+# of the check of names, which runs at the same time.
 MEMORY = 2
 # The number of test cases that one run of a program gets. The number is small, because the program may end at a case.
 # The remaining cases of the run are then not tried.
 AT_ONCE = 40
 # The number of seconds that one run of a program may take, even on a busy machine.
 SECONDS = 1200
-# At most this many lines of errors are printed for a crate. So many lines are enough for ten cases.
+# The number of lines of errors that are printed for a crate, at most. This number is enough for the errors of ten
+# cases.
 MOST_LINES = 40
 
 # A job tests a crate. It has the name of the crate, a word that says what is tested, and a function that returns the
 # errors and the output.
 Job = collections.namedtuple("Job", "crate what run")
 # The code of a test file: its crate, its imports from the product, and the words of the rest. `calls` has the words
-# before a parenthesis. `dotted` has those of them that come after a dot. `paths` has the pairs of words around `::`.
+# before a parenthesis. `dotted` has those words of `calls` that come after a dot. `paths` has the pairs of words around
+# `::`.
 Code = collections.namedtuple("Code", "crate imports words calls dotted paths")
 # An exported function, and the crate that exports it. For the calls of c/capn.h, the name of the crate is `c`.
 Function = collections.namedtuple("Function", "crate name")
@@ -55,8 +57,8 @@ def tests_of(crate):
 
 
 def modules_of_calls(crate):
-    """Returns, for each call in the test cases of a crate, the modules that the call depends on. These modules are the
-    call's own module and the modules that this module uses."""
+    """Takes a crate with test cases. For each call of these cases, returns the modules that the call depends on. They
+    are the call's own module and all modules that it uses."""
     folder = os.path.join(TOP, "crates", crate, "src")
     modules = {name[:-3]: text_of("crates", crate, "src", name) for name in os.listdir(folder)}
 
@@ -71,8 +73,8 @@ def modules_of_calls(crate):
 
 
 def crates_of_calls(crate):
-    """Yields each call that has test cases in the given crate, and the crates that the modules of this call import. The
-    answer to the call depends on the imported crates."""
+    """Takes a crate with test cases. Yields each call of these cases, together with the crates that the call's modules
+    import. The answer to the call depends on these imported crates."""
     for word, used in modules_of_calls(crate).items():
         texts = [text_of("crates", crate, "src", f"{one}.rt") for one in used]
         yield word, {name for text in texts for name in re.findall(r"^use (capn_\w+)", text, re.M)}
@@ -121,7 +123,7 @@ def stored_job(crate):
 
 
 def shown(text, at=0):
-    """Returns a text that may be shortened. Of a long text, only the part around the index `at` is returned."""
+    """Returns a text. If the text is long, returns only the part around the index `at`."""
     begin = max(0, at - 100)
     end = begin + 400
     return f"{'..' * (begin > 0)}{text[begin:end]}{'..' * (end < len(text))}"
@@ -151,8 +153,8 @@ def cases_job(crate, cases):
         with tempfile.TemporaryDirectory() as folder:
             for number, part in enumerate(parts):
                 with open(os.path.join(folder, f"{number:04}"), "w", encoding="utf-8") as file:
-                    # The word `few` makes only some allocations of each call fail. In `make test`, which runs the
-                    # compiled code, each allocation fails in turn.
+                    # With the word `few`, a test makes some of the allocations of each call fail, and not all of them.
+                    # In `make test`, which runs the compiled code, each allocation fails in turn.
                     file.write(stored.asked(part, "few "))
             # `rt try` interprets the program. The interpreter can't run code that allocates memory from the system.
             status, out, said = try_crate(crate, ["--steps", "1", "--seconds", str(SECONDS), "--cases", folder])
@@ -201,8 +203,8 @@ def items(crate):
         return ()
     modules = re.findall(r"^pub mod (\w+);", text_of("crates", crate, "src", "lib.rt"), re.M)
     if crate == proving.LIBRARY:
-        # The library for C exports its calls, and laws about these calls. Neither is returned here, because c/capn.h
-        # declares the calls.
+        # The library for C exports its calls, and laws about these calls. This function leaves out both, because
+        # c/capn.h declares the calls.
         return ()
     modules = ["lib", *(it for it in modules if it != "laws")]
     return tuple(dict.fromkeys(it for module in modules for it in items_of(crate, module)))
@@ -220,8 +222,8 @@ def methods(crate, types):
 
 def exported():
     """Yields each function that a crate of the product (capn*) exports, each public function of a type that it exports,
-    and each call of c/capn.h. Leaves out the laws, and what the crate only exports again from another crate of the
-    product."""
+    and each call of c/capn.h. Leaves out the laws. Also leaves out what the crate imports from another crate of the
+    product and then exports again."""
     for crate in product():
         own = [name for path, name in items(crate) if path.split("::")[0] not in product()]
         yield from (Function(crate, name) for name in dict.fromkeys(own) if name[0].islower())
@@ -283,8 +285,8 @@ def providers(crate, name):
 
 def is_named(function, file):
     """Tests whether a test file uses an exported function. The file has to import the function, or the type of a
-    method, from a crate that exports it. The name also has to occur once more, outside of the import. A name that comes
-    after the name of a module counts, too."""
+    method, from a crate that exports it. The name also has to occur once more, outside of the import. It may also occur
+    after the name of an imported module, as in `MODULE::NAME`."""
     if function.crate == "c":
         return not file.crate and function.name in file.calls
     item, _, method = function.name.partition("::")
@@ -302,8 +304,8 @@ def naming(function):
 
 
 def jobs_naming(files):
-    """Yields the jobs of the given test files. The jobs run the tests of the files' crates, and the test cases that the
-    files answer."""
+    """Yields the jobs for the given test files. The jobs run all tests of the files' crates, and those test cases whose
+    calls depend on one of the files."""
     for crate in sorted({file.split("/")[1] for file in files}):
         if tests_of(crate):
             yield tests_job(crate)
@@ -360,9 +362,9 @@ def nearest(crate, names, tried):
 
 
 def calls_reaching(crate, names):
-    """Finds the first program that has test cases for a crate. Returns the program, and the calls of these cases. A
-    call is for the crate if the module that makes the call imports the crate. If no module imports the crate, the calls
-    are those of the modules that use it indirectly."""
+    """Finds the first program with a call that uses the given crate. Returns the program, and all its calls that use
+    the crate. A call uses the crate if one of the call's modules imports it. If no module of the program imports the
+    crate, a module that imports it indirectly is enough."""
     for one in stored.CRATES:
         found = dict(crates_of_calls(one))
         if crate == one or crate in names[one] and crate not in set().union(*found.values()):
@@ -375,7 +377,7 @@ def calls_reaching(crate, names):
 
 
 def reaching(crate):
-    """Returns what has to run so that a crate is tested: the crates of tests that are the fewest steps away from the
-    crate, a program with test cases, and the calls of these cases."""
+    """Returns what has to run so that a crate is tested. This is three items: the crates of tests that are the fewest
+    steps away from the crate, a program with test cases, and the calls of these cases."""
     names = proving.crates()
     return nearest(crate, names, [it for it in names if tests_of(it)]), *calls_reaching(crate, names)

@@ -38,7 +38,7 @@ static const struct {
       LINE(16, 0, 2, 1, 1, 0, 0, 1, POINTER, 0), LINE(24, 0, 3, 1, 1, 1, 0, 1, TAG, 0),
       LINE(32, 0, 4, 1, 1, 1, 0, 1, DATA, 0), LINE(40, 0, 5, 1, 2, 1, 0, 1, DATA, CAPN_LINE_OVERLAP),
       LINE(48, 0, 6, 1, 1, 1, 0, 1, SLACK, 0)}},
-    /* A list of 17 bytes. It fills two words, and has one byte of a third word. Another byte of the third word isn't
+    /* A list of 17 bytes. It fills two words and the first byte of a third word. A later byte of the third word isn't
      * zero. */
     {"several words and padding", " 010000008a000000616161616161616100000000000000006100000000000009", CAPN_BARE, 2,
      {LINE(0, 0, 0, 1, 1, 0, 0, 1, POINTER, 0), LINE(8, 0, 1, 3, 1, 0, 0, 2, LIST, CAPN_LINE_PADDING)}},

@@ -92,8 +92,8 @@ static void answers() {
     want("canonical words", capn::is_canonical_words(capn::canonical(one)) && !capn::is_canonical_words(one.substr(8)));
     /* The segment table of this message can be read as a pointer to a struct. The words of the struct are those of the
      * segment, and the last of them isn't zero. So the bytes of the whole message are canonical if they are read
-     * without a segment table. The message itself isn't canonical, since its root struct has a zero word before a
-     * pointer. */
+     * without a segment table. The message itself isn't canonical, since the last data word of its root struct is zero.
+     * */
     using capn::form;
     const capn::limits few(99, 2, 9);
     const std::string loose = framed(words({2ull << 32 | 1ull << 48, 5, 0, 1 | 0x22ull << 32, 0x636261}));
@@ -110,8 +110,8 @@ static void answers() {
     want("limits of words", capn::is_canonical_words(loose, {}) && thrown<capn::refusal>([&] {
                                 (void)capn::is_canonical_words(loose, few);
                             }) == "OverBudget at 0:0, paid 0, visits 1");
-    /* One overload of `is_canonical` has no argument for the form (stream, packed or bare). It is deprecated, but it
-     * still works. It takes the bytes as a single segment without a segment table. */
+    /* One overload of `is_canonical` has no argument for the form (stream, packed or bare). This overload is
+     * deprecated, but it still works. It takes the bytes as a single segment without a segment table. */
 #if defined(__GNUC__)
 #pragma GCC diagnostic push
 #pragma GCC diagnostic ignored "-Wdeprecated-declarations"
@@ -139,8 +139,8 @@ static void answers() {
     want("no more room than needed", small.size() == 8 && small.capacity() < 128);
     want("no more of a packed one", capn::canonical(capn::pack(one), form::packed).capacity() < 128);
     want("no more of a text", capn::show(null_root).capacity() < 128);
-    /* If a message is over the limit, it is rejected before memory of its size is allocated. This message has 4 GiB.
-     * All its pages map the same page of zeros. */
+    /* This message has 4 GiB, which is over the limit. The call has to reject the message, and must not allocate memory
+     * of this size. All pages of the message map the same page of zeros. */
     const std::size_t huge = std::size_t{1} << 32;
     void *const pages = mmap(nullptr, huge, PROT_READ, MAP_PRIVATE | MAP_ANONYMOUS | MAP_NORESERVE, -1, 0);
     want("pages", pages != MAP_FAILED);
@@ -202,8 +202,8 @@ static void pieces() {
     want("too long for bytes", capn::segments(long_one).bytes_in_all() > 8ull << 28);
 }
 
-/* Writes canonical bytes into a buffer. The caller also passes scratch memory. Some messages have few segments, some
- * are packed, and some have many segments. */
+/* Writes canonical bytes into a buffer. The caller also passes scratch memory. The messages have few segments or many
+ * segments, or are packed. */
 static void lent() {
     using capn::form;
     const std::string message = framed(words({1ull << 32, 5})), wanted(capn::bytes(capn::canonical(message)).chars());
@@ -229,8 +229,8 @@ static void lent() {
                        == CAPN_BAD_LIMITS);
 }
 
-/* Compares pairs of messages. A pair has one value in two layouts, or has two values, or has a message that is
- * rejected. */
+/* Compares pairs of messages. The two messages of a pair have the same value in two layouts, or have different values,
+ * or one of them is rejected. */
 static void comparisons() {
     using capn::form;
     const std::string tight = framed(words({1ull << 32, 5})), other = framed(words({1ull << 32, 6}));
@@ -297,7 +297,8 @@ static void ways() {
     want("none of a refused one", thrown<capn::refusal>([] { capn::departure(cut); }) == "frame: Cut");
 }
 
-/* Returns a line as text. The text names the kind of the line as `capn annotate` does. */
+/* Returns a line of capn::annotate as text. The text names the kind of the line with the word that `capn annotate`
+ * prints for this kind. */
 static std::string told(const capn::line &line) {
     static const char *const kinds[] = {"pointer", "null", "pad", "tag", "data", "list", "slack", "unreached"};
     const auto of = [](capn::place at) { return std::to_string(at.segment) + ":" + std::to_string(at.word); };
@@ -449,11 +450,13 @@ static void streams() {
     want("the cut one", thrown<capn::refusal>([&] { reader.next(); }) == "message 2 at 32: frame: Cut");
 }
 
-/* Tests readers whose function returns a wrong number of bytes. The reader must not report the mistake as an error of
- * the message, and must not read a byte that the function didn't write. */
+/* A reader gets its bytes from a function of the caller. In this test, the function returns a wrong number of bytes.
+ * The reader must not report the mistake as an error of the message, and must not read a byte that the function didn't
+ * write. */
 static void readers() {
     /* The reader calls a function for bytes. On the first call, the function writes the segment table. On the second
-     * call, the function returns a number that is too large, such as the -1 of a system call that failed. */
+     * call, the function returns a number that is too large. One such number is the -1 of a failed system call, because
+     * -1 is very large as an unsigned number. */
     const std::string all = one + one;
     for (const std::size_t wrong : {static_cast<std::size_t>(-1), std::size_t{25}, std::size_t{1} << 20}) {
         std::size_t at = 0, calls = 0;
@@ -469,8 +472,8 @@ static void readers() {
         const auto message = reader.next();
         want("nothing is lost", message && message->chars() == one && reader.next()->chars() == one && !reader.next());
     }
-    /* The pipe has 8 bytes. After these, read(2) fails and returns -1. The function of this reader returns the result
-     * of read(2), and doesn't look whether it is -1. */
+    /* The pipe has 8 bytes. After these, read(2) fails and returns -1. The function that the reader calls returns this
+     * -1 as a number of bytes. */
     int ends[2];
     want("a pipe", pipe(ends) == 0 && fcntl(ends[0], F_SETFL, O_NONBLOCK) == 0 && write(ends[1], one.data(), 8) == 8);
     capn::reader forgetful([&](std::byte *to, std::size_t most) {
@@ -496,8 +499,8 @@ static void readers() {
                             && why.error().name() == std::string("ReadFailed")
                             && why.error().meaning() == why.error().text());
 
-    /* Reads a stream in which other messages follow a rejected message. Tests the number and the offset of each
-     * message, and the error of each rejected message. */
+    /* Reads a stream in which other messages follow a rejected message. Compares the number and the offset of each
+     * message with the expected ones, and also the error of each rejected message. */
     const std::string mixed = one + hostile + one + hostile + cut;
     const auto from = [&mixed](std::size_t most_at_once) {
         return [&mixed, most_at_once, at = std::size_t{0}](std::byte *to, std::size_t most) mutable {
@@ -852,7 +855,7 @@ static void ranges() {
 #endif
 }
 
-/* If an object is moved into another object, the first one is empty afterwards. */
+/* After std::move of an object to a new object, the old object is empty. */
 static void moves() {
     capn::index from = capn::index::of(one);
     const capn::index to = std::move(from);

@@ -64,7 +64,8 @@ void want(const char *what, bool is) {
 
 bool equal(capn::bytes a, capn::bytes b) { return std::equal(a.begin(), a.end(), b.begin(), b.end()); }
 
-/* Tests the calls of capn_kj.hpp on one random message builder. Returns true if the builder has several segments. */
+/* Tests the calls of capn_kj.hpp on a message builder with random objects. Returns true if the builder has several
+ * segments. */
 bool try_one() {
     capnp::MallocMessageBuilder message(1 + below(40), below(4) ? capnp::AllocationStrategy::FIXED_SIZE
                                                                 : capnp::AllocationStrategy::GROW_HEURISTICALLY);
@@ -115,7 +116,7 @@ void try_null_segment() {
     }
 }
 
-/* Tests the error for segments that no message builder makes, and the text of this error. */
+/* Passes segments that no message builder makes. Tests the error that the call reports, and the text of this error. */
 void try_refused() {
     capnp::MallocMessageBuilder empty;
     try {

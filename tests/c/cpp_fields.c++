@@ -92,7 +92,8 @@ void show_message(capn::bytes message, bool is_new) {
     std::printf("\n");
 }
 
-// A hash of the numbers that are read from a pointer. It is FNV-1a over 64-bit numbers instead of bytes.
+// A hash of the numbers that are read from the object of a pointer. It is FNV-1a, but over numbers of 64 bits instead
+// of bytes.
 class sum {
 public:
     void add(std::uint64_t number) { sum_ = (sum_ ^ number) * 0x100000001b3; }
@@ -159,7 +160,7 @@ void show_lines(capn::value at) {
     show_part(at.try_struct(), [](sum &all, capn::record from) { all.add(from); });
     show_part(at.try_text("none"), [](sum &all, std::string_view text) { all.add(capn::bytes(text)); });
     show_part(at.try_data(), [](sum &all, capn::bytes data) { all.add(data); });
-    // capn.hpp reads a list of void elements only as a list of structs.
+    // capn.hpp has no call for a list of void elements. The test reads such a list as a list of structs.
     const bool is_void = at.is_null() || at.kind() == capn::kind::voids || at.kind() == capn::kind::rows;
     if (is_void) show_part(at.try_structs(), [](sum &all, capn::rows list) { all.add(list.size()); });
     else std::printf(" -");
@@ -184,8 +185,9 @@ void show_lines(capn::value at) {
         }
 }
 
-// Prints a line for each pointer of the messages that generated.py wrote. The length of each message comes before the
-// message. The message is copied to memory of exactly its length, so that a sanitizer detects a read past the end.
+// Prints a line for each pointer of the messages that generated.py wrote. In the input, the length of each message
+// comes before the message. The program copies each message to memory of exactly its length, so that a sanitizer
+// detects a read past the end.
 void show_mixed(const std::string &all) {
     for (std::size_t from = 0; from + 4 <= all.size();) {
         std::uint32_t size;

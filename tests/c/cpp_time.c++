@@ -1,8 +1,8 @@
-// Compares the time of each call of capn.hpp with the time of the same call in C.
+// For each call of capn.hpp, compares its time with that of the same call in C.
 //
-// A call of capn.hpp makes calls of capn.h. cpp_time [MOST] fails if the call of capn.hpp takes more than MOST times as
-// long as these calls of capn.h alone. It compares the shortest times of many rounds. Each round runs the call of
-// capn.hpp and the calls of capn.h, one after the other.
+// Each function of capn.hpp calls functions of capn.h. cpp_time [MOST] fails if a call of a capn.hpp function takes
+// more than MOST times as long as the same calls of capn.h without capn.hpp. It compares the shortest times of many
+// rounds. Each round runs the call of capn.hpp and the calls of capn.h, one after the other.
 #include "capn.hpp"
 #include <chrono>
 #include <cstdio>
@@ -21,8 +21,8 @@ template <class Call> double once(unsigned times, Call call) {
     return took.count() / times;
 }
 template <class C, class Plus> void beside(const char *name, std::size_t size, C c, Plus plus) {
-    /* The rounds are short, so most of them run without an interruption. As long as the time of capn.hpp is above the
-     * limit, more rounds are run. */
+    /* The rounds are short, so most of them run without an interruption. As long as capn.hpp is slower than the limit
+     * allows, the program runs more rounds. */
     const unsigned times = static_cast<unsigned>(1 + 200 / (1 + once(3, c) / 1000));
     double least = 1e18, least_plus = 1e18;
     for (int attempt = 0; attempt < 20 && (attempt == 0 || least_plus > most * least); attempt++)
@@ -65,9 +65,8 @@ void times(const std::vector<std::uint64_t> &words) {
     const capn::bytes bare(canonical);
     beside("check", size, [&] { return capn_check(CAPN_STREAM, data, size, &limits, &report) + report.paid; },
            [&] { return capn::check(message, capn::form::stream, limits).paid; });
-    /* A vector clears its bytes before the call writes them, which takes long for a large message. So that the times
-     * can be compared, the calls in C write into a vector, too. The call `canonical_into` is the exception: it clears
-     * nothing. */
+    /* A vector sets its bytes to zero before the call writes them. For a large message, this takes long. So that the
+     * times can be compared, the calls in C write into a vector, too. Only `canonical_into` clears nothing. */
     beside("canonical", size,
            [&] {
                capn_canonical(CAPN_STREAM, data, size, &limits, nullptr, 0, &report);

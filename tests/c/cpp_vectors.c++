@@ -32,8 +32,8 @@ capn::form form_of(const std::string &word) {
     return word == "packed" ? capn::form::packed : word == "bare" ? capn::form::bare : capn::form::stream;
 }
 
-/* Returns the text of an error as the expected answers have it. This text doesn't have the place that for_each adds.
- * For errors of packing and unpacking, it doesn't name the form (`bare` or `packed`). */
+/* Returns the text of an error as the expected answers have it. For an error of for_each, the place at the end is left
+ * out. For an error of packing or unpacking, the text doesn't name the form (`bare` or `packed`). */
 std::string refused(const capn::refusal &why, bool of_packing) {
     std::string text = capn::refusal(why.status(), why.report()).what();
     for (const std::string form : {"bare: ", "packed: "})

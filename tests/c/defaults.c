@@ -83,7 +83,8 @@ enum { CALLS = sizeof calls / sizeof *calls };
 
 static unsigned long long answered, refused;
 
-/* Makes a call with no null pointer, and then with each combination of null pointers. */
+/* Makes the same call several times. In the first call, no pointer is null. Each later call has another combination of
+ * null pointers. */
 static void compare(size_t call, uint32_t form, const uint8_t *bytes, size_t size) {
     static struct given with, without;
     capn_report wanted, got;

@@ -16,7 +16,7 @@
  *   - for a text and for data, the length and the bytes; a null pointer has the default text `none`
  *   - for a list of elements without size, the length
  *   - for a list of numbers, the length, and the first thousand numbers
- *   - for a list of pointers, the length, and the numbers of the kinds of the first twenty pointers
+ *   - for a list of pointers, the length, and a number for the kind of each of the first twenty pointers
  *   - for a list of structs, the length, and the numbers of the first twenty structs */
 
 /* The command `fields lines` prints these numbers for a struct, in this order:
@@ -163,8 +163,8 @@ static uint64_t read_record(const capn_record *record) {
 /* The results are stored here, so that the compiler can't leave out the code that reads. */
 static volatile uint64_t kept;
 
-/* Reads an index entry as a struct, as a text, as data, and as each kind of list. Returns how many of these readings
- * succeed. */
+/* Reads an index entry as a struct, as a text, as data, and as each kind of list. Returns in how many of these ways the
+ * entry can be read. */
 static int read_any(const capn_entry *entry) {
     capn_record record;
     capn_items items;
@@ -297,8 +297,8 @@ static uint8_t *alone(const uint8_t *from, size_t size) {
     return message;
 }
 
-/* Prints a line for each pointer of the messages that generated.py wrote. The length of each message comes before the
- * message. */
+/* Prints a line for each pointer of the messages that generated.py wrote. In the input, the length of each message
+ * comes before the message. */
 static int show_lines(void) {
     size_t have;
     uint8_t *all = all_of_input(&have);
@@ -325,7 +325,7 @@ static int show_lines(void) {
     return failed != 0;
 }
 
-/* Reads each message of a stream, and prints the message's fields or the number of readings that succeed. */
+/* Reads each message of a stream. Prints the message's fields, or in how many ways its pointers can be read. */
 static int show_stream(const char *as) {
     const int is_any = !strcmp(as, "any");
     const capn_limits limits = CAPN_USUAL_LIMITS;
@@ -375,8 +375,9 @@ static size_t message(uint8_t *to, const uint64_t *words, size_t count) {
     return 8 + 8 * count;
 }
 
-/* Tests a message whose root has one pointer, which refers to a list of two structs. Each struct has a zero word or a
- * null pointer, or is empty. A reader with an older schema reads numbers or pointers from the list. */
+/* Tests a message whose root has one pointer, which refers to a list of two structs. Each struct has a zero word, or a
+ * null pointer, or neither. The test reads the list as numbers and as pointers, as a program with an older schema does.
+ * */
 static void two_of_zeros(const uint64_t *words, size_t count) {
     uint8_t data[64];
     capn_entry all[8];
@@ -402,8 +403,8 @@ static void two_of_zeros(const uint64_t *words, size_t count) {
     want("structs as bits", capn_list(data, capn_slot(&root, 0), CAPN_KIND_BITS, &items), 0);
 }
 
-/* Messages with equal values give equal results. If a struct is too short for a number or a pointer, zero or null is
- * read. */
+/* If two messages have equal values, the test reads equal results from them. If a struct is too short for a number, the
+ * test reads zero. If it is too short for a pointer, the test reads null. */
 static void by_another_schema(void) {
     static const uint64_t a_word[] = {1ull << 48, 0x1700000001, 0x100000008, 0, 0};
     static const uint64_t a_pointer[] = {1ull << 48, 0x1700000001, 0x1000000000008, 0, 0};
@@ -437,7 +438,8 @@ static void by_hand(void) {
     want("what is stored for 7", (int64_t)of_words(1, 0), 7);
     want("no word", (int64_t)of_words(0, 0), 7);
 
-    /* Reads fields of each width at each bit of two words. Compares each field with its single bits. */
+    /* Takes two words. Reads a field of each width at each bit of the words, and compares it with the bits that it
+     * consists of. */
     uint8_t data[16];
     for (int i = 0; i < 16; i++) data[i] = (uint8_t)(37 * i + 11 * i * i + 201);
     capn_record record = {data, NULL, 128, 0};
@@ -455,7 +457,7 @@ static void by_hand(void) {
         }
     want("far beyond", (int64_t)capn_field(&record, UINT32_MAX, 64, 9), 9);
 
-    /* Tests the number of index entries that a message needs. An array with fewer entries isn't enough. */
+    /* Tests how many index entries the calls report for a message. An array of fewer entries must not be enough. */
     static const uint8_t nested[] = {0, 0, 0, 0, 4, 0, 0, 0, 0, 0, 0, 0, 0, 0, 2, 0, 4, 0, 0, 0, 0, 0, 1, 0,
                                      0, 0, 0, 0, 0, 0, 0, 0, 0, 0, 0, 0, 0, 0, 0, 0};
     const capn_limits usual = CAPN_USUAL_LIMITS;

@@ -21,8 +21,8 @@ static void need(int holds, const char *what, const uint8_t *bytes, size_t size)
     abort();
 }
 
-/* Tests a message that capn_check accepts. capn_canonical, capn_hash and capn_is_canonical have to agree on its
- * canonical bytes and on its cost. */
+/* Tests a message that capn_check accepts. capn_canonical, capn_hash and capn_is_canonical have to agree on the
+ * message's canonical bytes and on its cost. */
 static void accepted(uint32_t form, const uint8_t *bytes, size_t size, const capn_report *checked, size_t enough) {
     uint8_t *out = malloc(enough), digest[2][32];
     capn_report report;
@@ -121,7 +121,7 @@ static void indexed(uint32_t form, const uint8_t *bytes, size_t size, capn_statu
     free(all);
 }
 
-/* The calls that report paths must report the same error as capn_check. */
+/* Some calls report the path to an error. They must report the same error as capn_check. */
 static void led(uint32_t form, const uint8_t *bytes, size_t size, capn_status check, const capn_report *checked) {
     static uint32_t way[2 * 256];
     capn_departed departed;
@@ -138,7 +138,7 @@ static void led(uint32_t form, const uint8_t *bytes, size_t size, capn_status ch
 }
 
 /* capn_annotate must report the same as capn_check. The lines must have each word of the message exactly once, in
- * order. For each line, the number of words that aren't zero must be right. */
+ * order. Each line must have the right count of words that aren't zero. */
 static void lined(uint32_t form, const uint8_t *bytes, size_t size, capn_status check, const capn_report *checked) {
     capn_report report;
     const capn_status status = capn_annotate(form, bytes, size, &limits, NULL, 0, &report);

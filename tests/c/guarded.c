@@ -2,7 +2,7 @@
  * that is passed to a call lies before or after a page that can't be accessed. The input is read-only. The seed is
  * fixed, so each run makes the same calls. The argument is the number of calls. Each line of standard input ends with
  * bytes in hexadecimal. These bytes are also inputs of the calls. The program prints a line with a hash of everything
- * that the calls returned and wrote. Two builds of the library give the same hash. */
+ * that the calls returned and wrote. The hash has to be the same for two builds of the library. */
 #define TEST "guarded"
 #include "wanted.h"
 #include <signal.h>
@@ -163,7 +163,7 @@ static void store(char *line) {
 
 static uint8_t *of_input, *of_limits, *of_out, *of_report, *of_other;
 
-/* The memory that the current call may write, and a hash. The hash is FNV-1a over everything that all calls returned
+/* The memory for the output of the current call, and a hash. The hash is FNV-1a over everything that all calls returned
  * and wrote. */
 static struct { const uint8_t *bytes; size_t size; } written[4];
 static uint32_t written_count;
@@ -180,8 +180,8 @@ static void add_answer(capn_status answered) {
     for (uint32_t i = 0; i < written_count; i++) add(written[i].bytes, written[i].size);
 }
 
-/* Fills the memory that a call may write with a pattern. Bytes that the call doesn't write must still have the pattern
- * afterwards. */
+/* Takes a piece of memory for the output of a call, and fills it with a pattern. After the call, the bytes that the
+ * call didn't write must still have the pattern. */
 static uint8_t *filled(uint8_t *start, size_t size) {
     uint8_t *out = part(start, size);
     if (size) memset(out, FILL, size);

@@ -1,4 +1,5 @@
-/* Compiles capn.h as C or C++, and makes each call of capn.h once. The message of these calls has a null root. */
+/* Makes each call of capn.h once. This file can be compiled as C and as C++. All calls get a message with a null root.
+ * */
 #include "capn.h"
 
 int main(void) {

@@ -44,8 +44,8 @@ int main(void) {
     make(words, wanted);
     wanted[0].span = COUNT - 1;
     for (size_t segments = 0; segments <= 3; segments += segments == 0 ? 1 : 2) {
-        /* If there are three segments, the first one has only the root pointer. It is a far pointer to the landing pad
-         * at the start of the third segment. */
+        /* In a message of three segments, the first one has only the root pointer. This pointer is a far pointer to the
+         * landing pad at the start of the third segment. */
         size_t table = segments == 0 ? 0 : 8 * (segments / 2 + 1), more = segments == 3 ? 8 : 0;
         size_t size = table + more + 8 * WORDS;
         for (size_t off = 0; off < 8; off++) {

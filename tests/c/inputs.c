@@ -98,8 +98,9 @@ static void anywhere(void) {
         }
 }
 
-/* A message may have 1 to 4,096 segments. The calls accept each of these numbers of segments, in the forms `stream` and
- * `packed`. The first segment has a null root, and the others have no words. */
+/* A message may have 1 to 4,096 segments. The test makes a message for each of these numbers, in the forms `stream` and
+ * `packed`. The calls have to accept all these messages. The first segment has a null root, and the others have no
+ * words. */
 static void segments(void) {
     static uint8_t frame[4 * 4097 + 4 + 8], text[2 * sizeof frame], digest[32];
     capn_report r;
@@ -145,7 +146,7 @@ static const struct {
 };
 enum { NUMBERS = sizeof numbers / sizeof *numbers };
 
-/* Returns limits whose field at the offset `at` is set to a number. */
+/* Returns the given limits with one change: the field at the offset `at` has the value `number`. */
 static capn_limits with(capn_limits limits, size_t at, uint32_t number) {
     memcpy((uint8_t *)&limits + at, &number, sizeof number);
     return limits;
@@ -161,7 +162,8 @@ static void ranges(void) {
         least = with(least, numbers[i].at, numbers[i].least);
         greatest = with(greatest, numbers[i].at, numbers[i].most);
     }
-    /* The last entry has two errors: the same bad limit as the entry before it, and a bad counting rule (tariff). */
+    /* The last entry has two errors. It has the bad limit of the entry before it, and also a bad counting rule
+     * (tariff). */
     bad[count] = bad[count - 1];
     bad[count++].tariff = 9;
     const uint32_t forms[] = {0, 1, 2, 3, 4, UINT32_MAX}, tariffs[] = {2, 3, UINT32_MAX};
@@ -223,8 +225,8 @@ static void announced(void) {
     want("announced", r.at, 1ull << 32);
     want("4,096 segments", capn_check(CAPN_STREAM, most, 8, &greatest, &r), CAPN_FRAME_CUT);
     want("4,097 segments", capn_check(CAPN_STREAM, above, 8, &greatest, &r), CAPN_TOO_MANY_SEGMENTS);
-    /* In these packed bytes, each 2 bytes unpack to a run of 256 zero words. The limit of the call is 256 words, so the
-     * second run exceeds it. */
+    /* In these packed bytes, a pair of bytes stands for a run of 256 zero words. The limit of the call is 256 words, so
+     * the second run exceeds it. */
     static uint8_t zeros[2 * 4096];
     for (size_t i = 0; i < sizeof zeros; i += 2) zeros[i + 1] = 255;
     want("a packed run above its maximum", capn_unpack(zeros, sizeof zeros, 256, NULL, 0, &r), CAPN_PACKED_TOO_LONG);
@@ -249,8 +251,8 @@ static void too_long(void) {
 }
 
 static void hostile(void) {
-    /* The first message is a struct whose only pointer refers to the struct itself. The second is a list of two
-     * pointers that both refer to the list itself. The limits end the traversal of each message. */
+    /* The first message is a struct whose only pointer refers to the struct itself. The second message is a list of two
+     * pointers, and both pointers refer to the list itself. A traversal of these messages ends only at a limit. */
     const uint8_t self[8] = {0xfc, 0xff, 0xff, 0xff, 0, 0, 1, 0};
     const uint8_t twice[24] = {1,    0,    0,  0, 0x16, 0,    0,    0,    0xfd, 0xff, 0xff, 0xff,
                                0x16, 0, 0, 0, 0xf9, 0xff, 0xff, 0xff, 0x16, 0,    0,    0};

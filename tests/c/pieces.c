@@ -135,8 +135,8 @@ static void some(void) {
     want("no length", r.length | r.at, 0);
 }
 
-/* Unpacking in chunks has to give the same words as unpacking at once. Chunks of each length are tried, and each size
- * of buffer that a group of packed bytes fits into. */
+/* Unpacking in chunks has to give the same words as unpacking at once. The test tries chunks of each length. It also
+ * tries each buffer size that is enough for one group of packed bytes. */
 static void loops(void) {
     for (size_t piece = 1; piece <= text_size; piece++)
         for (size_t room = 168; room <= 200; room += 8) {

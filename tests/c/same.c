@@ -172,8 +172,8 @@ static void segments(void) {
     want("which of neither", which, 0);
 }
 
-/* If the first message is rejected, capn_same doesn't read the second message. The two messages may be the same bytes
- * in memory. */
+/* Tests two rules. If the first message is rejected, capn_same doesn't read the second message. A caller may pass the
+ * same bytes in memory as both messages. */
 static void order(void) {
     static const uint8_t null[16] = {0, 0, 0, 0, 1};
     uint8_t holds[16];

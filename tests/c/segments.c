@@ -1,9 +1,10 @@
-/* Tests the calls that take the segments of a message. The names of these calls end in `_segments`. Each of them must
- * return what the call of the same name without `_segments` returns for the stream of the same segments. Each line of
- * standard input ends with the bytes of a stream, in hexadecimal. The test uses these streams, and copies in which some
- * bytes are changed. The changes come from a fixed seed. Each segment is copied alone to an odd address. The last
- * segment ends at the end of a page, before a page that can't be accessed. Then the test makes the calls on segments
- * that no stream can have. Finally every allocation fails, and the test makes the calls that need no memory. */
+/* Tests the calls that take the segments of a message. The names of these calls end in `_segments`. Without this
+ * ending, the name is that of a call for a stream. If both calls get the same segments, they must return the same. Each
+ * line of standard input ends with the bytes of a stream, in hexadecimal. The test uses these streams, and copies in
+ * which some bytes are changed. The changes come from a fixed seed. Each segment is copied alone to an odd address. The
+ * last segment ends at the end of a page, before a page that can't be accessed. Then the test makes the calls on
+ * segments that no stream can have. At the end, the test makes the calls that need no memory, while every allocation
+ * fails.  */
 #define TEST "segments"
 #include "refusing.h"
 #include "wanted.h"

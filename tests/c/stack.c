@@ -14,7 +14,8 @@
 
 enum { ROOM = 1 << 20 };
 enum { MOST_SEGMENTS = 66, CALLS = 32, KINDS = 4 };
-/* The calls that have their own bound on the stack for each level of depth. `levels` has these bounds in bytes. */
+/* A call may use more stack for each level of depth. Three calls have a bound of their own for a level, and all other
+ * calls share one bound. `levels` has the bounds in bytes. */
 static const char *const names[KINDS] = {"", "capn_show ", "capn_index ", "capn_same "};
 static size_t base, levels[KINDS];
 static uint8_t in[8 * 4096], framed[8 * 4096 + 1024], text[ROOM], scratch[ROOM];

@@ -140,7 +140,8 @@ static void reading(void) {
 }
 
 /* Passes packed bytes that unpack to more words than one message with the longest segment table may have. Then passes
- * more words than a message without a table may have. The words of this second call can't be accessed. */
+ * more words than a message without a table may have. In this second call, the words lie in memory that can't be
+ * accessed. */
 static void too_long(void) {
     const capn_limits one = limits_of(1, 1, 1, CAPN_STRICT);
     uint8_t zeros[18];

@@ -16,7 +16,7 @@ static capn_limits limits;
 static uint8_t stream[16 + 8 * WORDS], packed[10 * (WORDS + 2)];
 static size_t packed_size;
 
-/* The statuses, the reports and the written bytes of all calls of a thread. */
+/* What all calls of one thread gave: the statuses, the reports and the written bytes. */
 typedef struct answers {
     capn_status status[CALLS];
     capn_report report[CALLS];

@@ -20,8 +20,9 @@ import model
 KINDS = ["pointer", "null", "pad", "tag", "data", "list", "slack", "unreached"]
 # A line quotes at most this many bytes of a list.
 QUOTED = 32
-# All words of a line have the same kind, belong to the same visit, and are covered equally often. A line ends before
-# the first word that differs in one of these properties. A line of a kind in ALONE has only one word.
+# The words of a line have three properties in common: their kind, the visit that they belong to, and how often they are
+# covered. A line ends before the first word that differs in one of these properties. A line of a kind in ALONE has only
+# one word.
 ALONE = ("pointer", "pad", "tag")
 
 # An object, or a landing pad: the path to the pointer that leads to it, the segment and the index of its first word,
@@ -89,8 +90,8 @@ class Cover:
             size = data + slots
             part = Part(way, segment, begin, ("rows", count, rows, data, slots))
             self.cover(part, visit, segment, begin, 1, "tag")
-            # The words of all structs of the list are covered before the pointers in these structs are visited. The
-            # visits cover their words in preorder.
+            # The words of all structs of the list are covered before any pointer in these structs is followed. Pointers
+            # are followed in preorder.
             for i in range(rows if size else 0):
                 self.cells(part, visit, begin + 1 + i * size, data, slots)
             self.cover(part, visit, segment, begin + 1 + rows * size, count - rows * size, "slack")
@@ -227,9 +228,9 @@ class Notes:
                     "" if way is None else explained.dotted(way), text)
 
     def text(self, segment, at, end, kind):
-        """Returns the text of a line, and the number that the line adds to the count `hidden`. A line may also have two
-        endings, about words that canonical bytes leave out and about overlaps. The returned text doesn't have these
-        endings."""
+        """Returns the text of a line, and the number that the line adds to the count `hidden`. The returned text
+        doesn't have the two endings that a line may have. One ending is about words that canonical bytes leave out, and
+        the other is about overlaps."""
         number, size = self.cover.starts[segment] + at, end - at
         word, part = self.value(number), self.cover.parts[number]
         if kind == "null":
@@ -249,8 +250,8 @@ class Notes:
         return f"{size} words, {f'{not_zero} not zero' if not_zero else 'zero'}", not_zero
 
     def listed(self, part, at, end):
-        """Takes a line about a list without pointers. Returns the text of the line, and whether the list has padding
-        that isn't zero."""
+        """Returns the text of a line about a list without pointers, and whether this list has padding that isn't
+        zero."""
         code, count = part.shape[1:]
         width = model.WIDTH_BITS[code]
         text = f"{count} {explained.KINDS[code]}"

@@ -49,7 +49,7 @@ def answer(line, data):
 
 def values_of(option):
     """Returns values to try for an option. The values are the words that the option allows, or two small numbers, or
-    the example in the help text. An option that takes no value gets an empty list."""
+    the example in the help text. If the option takes no value, returns an empty list."""
     if not option.takes:
         return [[]]
     words = ["1", "2"] if option.takes in NUMBERS else option.words or re.findall(r", such as `([^`]+)`", option.said)

@@ -42,9 +42,9 @@ class Explanation(model.Walk):
         self.begin, self.table, self.limits = begin, table, limits
         self.way, self.holder, self.refused, self.asked = [], None, None, None
         self.capability_way = None
-        # `within` is about the object whose pointers are read next. It has the path to this object, the place of its
-        # first pointer, and a text that describes it. `shape` has the path to the current object. If this object is a
-        # list of structs, `shape` also has the place of its first struct.
+        # `within` has three items about the object whose pointers are read next: the path to this object, the place of
+        # its first pointer, and a text that describes the object. `shape` has the path to the current object. If this
+        # object is a list of structs, `shape` also has the place of its first struct.
         self.within = self.shape = None
         try:
             super().__init__(segments, **limits)
@@ -217,8 +217,8 @@ def accepted_lines(walk, segments):
 
 
 def came(data, form, offset):
-    """Takes a message that was rejected before its traversal. Returns two items: the unpacked bytes from the offset of
-    the message on, and the bytes of a truncated group."""
+    """Takes an input whose message was rejected before its traversal. Returns two items: the unpacked bytes from the
+    beginning of the message on, and the bytes of a truncated group."""
     if form != "packed":
         return data[offset:], b""
     words, group = model.unpacked(data)

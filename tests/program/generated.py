@@ -21,8 +21,8 @@ def frame(*words):
 
 
 def doubling(levels):
-    """Returns a chain of structs with two pointers each. The two pointers of a struct refer to the next struct. The
-    last struct has a word."""
+    """Returns a chain of structs with two pointers each. Both pointers of a struct refer to the next struct. The last
+    struct has a word."""
     words = [1 << 49]
     for level in range(levels):
         sizes = 1 << 32 if level == levels - 1 else 1 << 49
@@ -51,7 +51,7 @@ INPUTS = [
 COUNTS = [9, 70, 17, 9, 5, 3, 3, 5]
 # The highest bit of the element count in the tag word of a list of structs.
 HIGHEST = 1 << 31
-# For each kind of list, the number of bits of an element.
+# For each kind of list, the number of bits in one element.
 BITS = [0, 1, 8, 16, 32, 64]
 TEXTS = [b"\0", b"abc\0", "grün\0".encode(), b"\xff\xfe\0", b"no zero", b"a\0b\0"]
 # Limits of a call: the words of a message, the budget and the depth.
@@ -199,7 +199,8 @@ def valid(rng, number):
                 put(to, begin + place, depth - 1)
 
     while sum(map(len, segments)) < least:
-        # Each segment begins with a word. In a segment without words, the reference implementation finds no object.
+        # Each segment gets at least one word, because the reference implementation finds no object in a segment without
+        # words.
         segments = [[0] for _ in range(number)]
         put(0, 0, rng.choice([1, 3, 5]))
     return segments
@@ -228,8 +229,8 @@ def changed(rng, data):
 
 
 def calls(count):
-    """Yields the lines of `generated.py calls`. Six in ten messages are hostile, and the others are valid, but one in
-    four of these is changed."""
+    """Yields the lines of `generated.py calls`. Six in ten messages are hostile. The others are made as valid messages,
+    and one in four of these others is then changed."""
     rng = random.Random(65)
     for _ in range(count):
         data, form = framed(message(rng)), rng.choice(["stream", "stream", "packed", "bare"])
@@ -263,7 +264,8 @@ def stream(count):
 
 
 def mixed(count):
-    """Returns hostile messages and changed valid ones in random order, each after its length."""
+    """Returns hostile messages and changed copies of valid messages, in random order. The length of each message comes
+    before the message."""
     rng = random.Random(20260)
     messages = [framed(message(rng)) for _ in range(count // 2)]
     messages += [changed(rng, framed(valid(rng, rng.choice([1, 1, 1, 2])))) for _ in range(count - count // 2)]

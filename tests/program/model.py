@@ -110,8 +110,8 @@ def packed(data):
 # Traversals.
 
 
-# The limits that are numbers. Each has the share of random test runs that set it, its least value and its greatest
-# value.
+# The limits that are numbers. A limit has three numbers: the share of random test runs that set this limit, its least
+# value and its greatest value.
 LOW_LIMITS = {"budget": (0.3, 0, 30), "depth": (0.2, 1, 5), "message_words": (0.2, 1, 12)}
 
 
@@ -468,8 +468,8 @@ def text_of(items):
 
 
 def plain_of(value, with_texts):
-    """Returns a value as an object that the module `json` can write. If `with_texts` is true, each list of bytes that
-    is a text becomes a string."""
+    """Returns a value as an object that the module `json` can write. If `with_texts` is true, lists of bytes that are
+    texts become strings."""
     kind = value[0]
     if kind == "null":
         return None
@@ -576,8 +576,8 @@ def is_own(walk, segments):
 
 
 def messages(data, form, most):
-    """Returns the messages of an input: each with its offset, its bytes with the segment table, and its segments. Also
-    returns the error that ends the stream, or None."""
+    """Returns the messages of an input. For each message, returns its offset, its bytes with the segment table, and its
+    segments. Also returns the error that ends the stream, or None."""
     if form == "bare":
         if len(data) % 8:
             return [], (f"bare: NotWhole({len(data)})", 1, 0)
@@ -633,8 +633,8 @@ def listed(head, walk, segments, with_digest):
 
 
 def needed(greatest, found, tariff):
-    """Returns the lines of `limits`. They give the number of messages, and the greatest value of each statistic. With
-    each value comes the number of the message that has it."""
+    """Returns the lines of `limits`. They give the count of messages, and the greatest value of each statistic. For
+    each of these values, they also say which message has it."""
     most = 2**28
     words, paid, deep = (greatest[name][0] for name in greatest)
     lines = [f"messages {found}"]

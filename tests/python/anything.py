@@ -46,8 +46,8 @@ def of_list(items, most, of_each):
 
 
 def text_of(found):
-    """Returns the bytes of a text, without its last zero byte. Like the C library, it also returns bytes that aren't
-    UTF-8."""
+    """Returns the bytes of a text, without its last zero byte. Like the C library, this function also returns bytes
+    that aren't UTF-8."""
     if not isinstance(found, (capn.Null, capn.Bytes)):
         raise capn.Mismatch(f"there is no text, but {found!r}")
     try:
@@ -72,8 +72,8 @@ def elements_of(found):
 
 
 def things(found):
-    """Yields a pair for each kind of object that a pointer is read as: a call that reads the object, and a function
-    that turns the result of the call into numbers."""
+    """The test reads each pointer as several kinds of objects. For each kind, yields two functions: one reads the
+    object, and the other turns the result into numbers."""
     yield found.struct, of_struct
     for bytes_of in text_of, data_of:
         yield lambda: bytes_of(found), lambda data: (len(data), *data)
@@ -85,8 +85,8 @@ def things(found):
 
 
 def parts(found, shown):
-    """Reads a pointer as each kind of object, and yields a word of the output line for each kind. The word is what
-    `shown` makes of the object's numbers, or `-` if the pointer can't be read as this kind."""
+    """Reads the object of a pointer as each kind of object. For each kind, yields a word of the output line. The word
+    is what `shown` makes of the object's numbers. If the object can't be read as this kind, the word is `-`."""
     for call, numbers in things(found):
         try:
             answer = call()
@@ -97,7 +97,7 @@ def parts(found, shown):
 
 
 def pointers(found):
-    """Yields the object of each pointer, in the order in which an index lists the pointers."""
+    """Yields the object of each pointer. The order of the pointers is that of an index."""
     left = [found]
     while left:
         found = left.pop()
@@ -113,8 +113,8 @@ def pointers(found):
 
 
 def any_of(stream):
-    """Counts the messages of a stream, the pointers in them, and how often it succeeds in reading a pointer. Returns
-    these three numbers as a text."""
+    """Reads each pointer in the messages of a stream as each kind of object. Returns three numbers as a text: the
+    number of messages, the number of pointers, and the number of reads that succeeded."""
     messages = slots = read = 0
     for frame in capn.messages(stream, read_ahead=True):
         try:

@@ -3,7 +3,8 @@ from tried import some
 
 # A value is None, or a tuple whose first item is its kind: ("struct", words, slots); ("list", code, count, bytes) for a
 # list of numbers; ("pointers", values); or ("rows", words, slots, [(words, slots)]) for a list of structs. Here slots
-# are pointers. The structs of a list all have the same number of words and of pointers, which the list gives.
+# are pointers. All structs of a list have the same number of words and the same number of pointers. The tuple of the
+# list gives these two numbers.
 NUMBERS = some.sampled_from([0, 0, 1, 1 << 63]) | some.integers(0, (1 << 64) - 1)
 BITS = {0: 0, 1: 1, 2: 8, 3: 16, 4: 32, 5: 64}
 
@@ -36,7 +37,7 @@ def values():
 
 
 def short(words, least=0):
-    """Returns a list without the zero words, or the null pointers, at its end."""
+    """Returns a list of words without the zeros at its end, or a list of pointers without the nulls at its end."""
     end = len(words)
     while end > least and not words[end - 1]:
         end -= 1
@@ -111,8 +112,8 @@ def far(segment):
 
 @some.composite
 def hostile(draw):
-    """Draws bytes that may or may not be a valid message. They are either random bytes, or a message in which some
-    bytes are changed or cut off."""
+    """Draws bytes that may or may not be a valid message. They are random bytes, or a message with changed bytes, or a
+    truncated message."""
     if draw(some.booleans()):
         return draw(some.binary(max_size=200))
     written = bare(draw(values()), draw(some.booleans()))

@@ -11,7 +11,7 @@ import capn
 
 MESSAGE = bytes.fromhex("0000000003000000" "0000000002000000" "0500000000000000" "0000000000000000")
 CALLS, RUNS = 2000, 500
-# The number of structs in the list that the function `longer` writes.
+# The function `longer` writes a list of this many structs.
 ROWS = 12
 
 
@@ -62,8 +62,8 @@ def way(data):
 
 
 def cut(message):
-    """Removes the last word of a message of one segment, and changes the segment table to fit. Returns the shorter
-    message."""
+    """Removes the last word of a message of one segment, and reduces the length in the segment table. Returns the
+    shorter message."""
     return message[:4] + (len(message) // 8 - 2).to_bytes(4, "little") + message[8:-8]
 
 

@@ -61,8 +61,8 @@ MESSAGES = [
 
 
 class Slots(annotated.Cover):
-    """A `Cover` that also has a dictionary of the places of pointers. A key is the number of a visit, and its value is
-    the place of the pointer that this visit follows."""
+    """A `Cover` with one more dictionary. A key is the number of a visit, and its value is the place of the pointer
+    that this visit follows."""
 
     def __init__(self, segments):
         self.slots = {}
@@ -109,7 +109,8 @@ class Annotated(unittest.TestCase):
         self.assertEqual([kind.name.lower() for kind in LineKind], annotated.KINDS)
 
     def test_many_lines(self):
-        # A struct of many pointers, each to an empty struct: each word has a line.
+        # The message is a struct of many pointers. Each pointer refers to an empty struct. Each word of the message has
+        # a line of its own.
         count = 5_000
         data = (count << 48).to_bytes(8, "little") + (0xFFFFFFFC).to_bytes(8, "little") * count
         lines = capn.annotate(data, "bare")
@@ -153,8 +154,8 @@ class Annotated(unittest.TestCase):
             self.assertEqual(lines, wanted(segments, len(table)), data.hex())
             accepted += 1
             kinds.update((one.kind, one.overlap, one.padding, one.cut > 0, one.times > 1) for one in lines)
-        # At least a third of the messages are accepted. Together, their lines have every kind and every other property
-        # that a line can have.
+        # At least a third of the messages are accepted. Each kind of line, and each other property of a line, occurs in
+        # at least one accepted message.
         self.assertGreater(accepted, TRIED // 3)
         self.assertEqual({kind for kind, *_ in kinds}, set(LineKind))
         for at in range(1, 5):

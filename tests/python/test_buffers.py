@@ -1,5 +1,5 @@
-"""Tests how calls use the caller's buffers, and that an exception keeps no buffer. Also tests how much memory a call
-uses, and in which order a call examines its arguments."""
+"""Tests how calls use the caller's buffers, and that an exception keeps no reference to a buffer. Also tests how much
+memory a call uses, and in which order a call examines its arguments."""
 import ctypes
 import gc
 import mmap
@@ -25,7 +25,7 @@ GIB = 1 << 30
 
 
 class AfterAnException(unittest.TestCase):
-    """Tests that neither an exception nor its traceback keeps the caller's buffer."""
+    """Tests that neither an exception nor its traceback keeps a reference to the caller's buffer."""
 
     def calls(self, data):
         """Yields calls that read the caller's bytes in place and raise an exception."""
@@ -98,8 +98,8 @@ class AfterAnException(unittest.TestCase):
 
 class Pipes(unittest.TestCase):
     def test_an_exception_before_a_pipe_is_begun_closes_nothing(self):
-        # The memory for the two descriptors of a pipe may contain any numbers before the pipe is opened. Here it
-        # contains the descriptors of two other files, which must stay open.
+        # Before a pipe is opened, the memory for its two descriptors may contain any numbers. Here this memory contains
+        # the descriptors of two other files, and these files must stay open.
         class Interrupted(Exception):
             pass
 
@@ -153,7 +153,7 @@ class Memory(unittest.TestCase):
 
 
 def long():
-    """Makes calls on a file of 5 GiB, while the process may use 8 GiB of address space."""
+    """Limits the address space of the process to 8 GiB, and makes calls on a file of 5 GiB."""
     import resource
 
     with tempfile.TemporaryFile() as file:
@@ -171,8 +171,8 @@ def long():
 
 
 def shown(data, form, limits):
-    """Calls `capn.show` after replacing one of its functions. So `capn.show` reads the bytes in place instead of
-    copying them."""
+    """Replaces the function that takes the bytes for `capn.show`, and then calls `capn.show`. With the replacement,
+    `capn.show` reads the bytes in place instead of copying them."""
     with unittest.mock.patch.object(capn._show, "_taken", lambda data, form, limits, _: capn._calls._taken(
             data, form, limits, True)):
         return capn.show(data, form, limits)

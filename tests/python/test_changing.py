@@ -1,5 +1,5 @@
-"""Tests calls on bytes that another thread changes during the call. A call copies the bytes first, unless the caller
-promises that they don't change."""
+"""Tests calls on bytes that another thread changes during the call. A call makes a copy of the bytes before it reads
+them, unless the caller promises that the bytes don't change."""
 import array
 import mmap
 import subprocess

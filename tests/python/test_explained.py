@@ -157,8 +157,8 @@ class AsExplained(unittest.TestCase):
                     self.assertEqual(stop_of(refusal), stop_of(refused))
                     ways.add(refusal.way)
                     if refused.name == "TooManyWords":
-                        # If the segments come from an iterator, a call stops at the first segment with which the number
-                        # of words exceeds the limit. So it may report fewer words than all segments have.
+                        # If the segments come from an iterator, a call adds up their words, and stops as soon as the
+                        # sum exceeds the limit. So it may report fewer words than all segments have together.
                         self.assertEqual(of_iterator.name, refused.name)
                         self.assertTrue(limits.message_words < of_iterator.at <= refused.at)
                     else:
@@ -199,7 +199,7 @@ class AsExplained(unittest.TestCase):
         tried = 0
         for case, answer in stored():
             words = case.split()
-            # Leaves out test cases with --keep-going, which explain several messages.
+            # Leaves out test cases with --keep-going, because such a case explains several messages.
             if words[0] != "archive" or words[2] != "explain" or "--keep-going" in words:
                 continue
             form, bounds, options, data = "stream", {}, words[3:-1], bytes.fromhex(words[-1].replace("-", ""))
@@ -210,8 +210,8 @@ class AsExplained(unittest.TestCase):
                     name, bound = limit_of(option, value)
                     bounds[name] = bound
             told = said(bytes.fromhex(answer.split(", ")[1].replace("-", "")))
-            # Some lines come only from the program: errors of a segment table, errors of packed bytes, errors of a
-            # length, and the number of messages. Leaves them out.
+            # Some errors are explained only by the program. They are errors in a segment table, in packed bytes, in a
+            # length, or in the number of messages. Leaves out test cases with such an error.
             if "accepted" not in told and "way" not in told:
                 continue
             with self.subTest(case=case):

@@ -1,5 +1,5 @@
-"""Tests ten thousand generated messages, most of them hostile. Each call in Python has to return what the C library
-returns.
+"""Makes calls in Python on ten thousand generated messages, most of them hostile. Each call has to return what the C
+library returns.
 
 The tests need a C compiler, and are skipped without one."""
 import os

@@ -1,5 +1,5 @@
-"""Tests the option `keep_going` on streams with rejected messages. The reader also returns the messages after a
-rejected one. Each message has its number and offset."""
+"""Tests the option `keep_going` on streams with rejected messages. With this option, a reader also returns the messages
+after a rejected message. The reader also reports the number and the offset of each message."""
 import asyncio
 import io
 import random
@@ -26,7 +26,7 @@ def told(found):
 
 
 def ways(data, packed):
-    """Yields functions that make a reader with `keep_going`, each over a different kind of file with the given
+    """Yields several functions. Each of them makes a reader with `keep_going`, over another kind of file with the given
     bytes."""
     for ahead in False, True:
         for file in data, io.BytesIO(data), io.BufferedReader(io.BytesIO(data), 16), Pieces(data, 7):
@@ -163,8 +163,8 @@ class KeepGoing(unittest.TestCase):
 
 
 class OneSignature(unittest.TestCase):
-    """Tests that the synchronous and the asynchronous readers take the same arguments. Positional arguments have the
-    same meaning as before `keep_going` was added."""
+    """Tests that the synchronous and the asynchronous readers take the same arguments. A positional argument must still
+    have the meaning that it had before `keep_going` was added."""
 
     def awaited(self, data, *arguments, **options):
         async def run():

@@ -60,8 +60,8 @@ class Threads(unittest.TestCase):
         self.addCleanup(sys.setswitchinterval, sys.getswitchinterval())
 
     def test_another_thread_runs_during_each_call(self):
-        # The interpreter must not switch threads on its own. Then another thread runs only if a call releases the
-        # interpreter's lock.
+        # This setting keeps the interpreter from switching threads on its own. So another thread runs only if a call
+        # releases the interpreter's lock.
         sys.setswitchinterval(1000)
         message = stream(SEGMENT)
         packed, look = capn.pack(message), self.looks(message[:-8] + b"\7" + bytes(7))
@@ -73,8 +73,8 @@ class Threads(unittest.TestCase):
                 self.assertTrue(any(self.runs_beside(call) for _ in range(50)))
 
     def looks(self, message):
-        """Takes a message that is rejected. Returns the function that searches the message for the path of the
-        error."""
+        """Checks a message, which has to be rejected. The exception has a function that searches the message for the
+        path of the error. Returns this function."""
         with self.assertRaises(capn.Refusal) as caught:
             capn.check(message)
         return caught.exception._look

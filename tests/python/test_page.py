@@ -81,8 +81,8 @@ class Page(unittest.TestCase):
         self.assertEqual(self.run_on(MESSAGE[:-8], first), (1, "rejected: frame: Cut\n"))
         self.assertEqual(self.run_on(MESSAGE * 2, first), (1, "rejected: trailing bytes at 32\n"))
         self.assertEqual(self.run_on(b"", first), (1, "rejected: frame: Empty\n"))
-        # With its segment table, this message has 1 MiB, the most that the program of the page accepts. The program
-        # rejects longer messages.
+        # With its segment table, this message has 1 MiB. The program of the page accepts messages up to this length,
+        # and rejects longer ones.
         most = framed((1 << 17) - 1)
         self.assertEqual(self.run_on(most, first), (0, f"{capn.digest(most).hex()}\n"))
         for longer in most + b"x", framed(1 << 17), framed(1 << 18), bytes((1 << 20) + 1):
@@ -119,8 +119,8 @@ class Page(unittest.TestCase):
         for numbers in "0100000010000000", "0100000012000000", "0100000013000000", "0100000014000000":
             self.assertEqual(self.run_on(children(numbers + "0500000000000000"), read),
                              (0, "7 nobody\nnobody\nnobody\n"))
-        # Each of these inputs has one error: a text without its last zero byte, a text that isn't UTF-8, an object of
-        # another kind than the program expects, bytes after the message, or too many levels.
+        # Each of these inputs has one error. The errors are a text without its last zero byte, a text that isn't UTF-8,
+        # an object of another kind than the program expects, bytes after the message, and too many levels.
         for message, why in (
             (TEXT.replace(b"\x22", b"\x1a"), "the last byte of a text is zero"),
             (TEXT.replace(b"abc", b"\xffbc"), "'utf-8' codec can't decode byte 0xff"),

@@ -21,8 +21,8 @@ class Answering:
 
 
 def ways(begun, wrong):
-    """Yields readers over a file whose `read` returns `wrong`. If `begun` is true, the first bytes of a message come
-    before `wrong`."""
+    """Yields readers over a file whose `read` returns `wrong`. If `begun` is true, `read` returns the first bytes of a
+    message before that."""
     for packed in False, True:
         sent = capn.pack(SMALL) if packed else SMALL
         for ahead in False, True:

@@ -78,8 +78,8 @@ class Entries(unittest.TestCase):
             if who == "both":
                 with self.subTest(message=message.hex()):
                     self.assertEqual(mine, their)
-        # Some messages are accepted only by this library, or only by the reference implementation. docs/DIFFERENCES.md
-        # lists them, and the script tests/reference/generated checks them.
+        # Some messages are accepted by this library and rejected by the reference implementation, or the other way
+        # round. docs/DIFFERENCES.md lists them, and the script tests/reference/generated checks them.
         self.assertGreater(seen["both"], TRIED // 2)
         self.assertGreater(seen["neither"], TRIED // 20)
         print(f"entries: {dict(seen)} of {TRIED} messages")

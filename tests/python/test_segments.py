@@ -1,5 +1,5 @@
-"""Tests the calls that take a message as a list of segments. Each has to return what the call for a stream with these
-segments returns."""
+"""Tests the calls that take a message as a list of segments. Each call has to return what the call for a stream
+returns, if the stream has the same segments."""
 import array
 import random
 import unittest

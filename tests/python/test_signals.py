@@ -32,7 +32,8 @@ class Interrupted(Exception):
 
 
 def after(count):
-    """Sets a profile function that counts the calls of the package. It raises one exception, in call number `count`."""
+    """Sets a profile function that counts the calls inside the package. When the count is `count`, the profile function
+    raises an exception."""
 
     def watch(frame, event, _):
         nonlocal count
@@ -61,11 +62,11 @@ def taken(found):
 
 
 class EachCall(unittest.TestCase):
-    """Reads each stream many times. In each run, an exception interrupts one of the calls inside the package. Each run
-    is interrupted in a later call than the run before it."""
+    """Reads each stream many times. Each time, an exception interrupts one of the calls inside the package, and each
+    time it is a later call."""
 
     def files(self, data, folder):
-        """Yields functions that each make a file with the given bytes. The kinds of files differ."""
+        """Yields several functions. Each of them makes another kind of file with the given bytes."""
         path = os.path.join(folder, "file")
         with open(path, "wb") as file:
             file.write(data)
@@ -102,8 +103,8 @@ class EachCall(unittest.TestCase):
         yield lambda: Peeking([data[:9], data[9:11], data[11:]])
 
     def each(self, data, make, wanted):
-        """Reads each kind of file many times. In each run, the exception is raised after a different number of calls.
-        Every message has to be returned."""
+        """Reads each kind of file many times. Each time, the exception is raised after another number of calls. No
+        message may be missing."""
         with tempfile.TemporaryDirectory() as folder:
             for number, file_of in enumerate(self.files(data, folder)):
                 with self.subTest(file=number):
@@ -181,8 +182,8 @@ class Loops(unittest.TestCase):
                 is_in_loop = False
                 raise Interrupted
 
-        # The timer counts the processor time of this process. So there is time for calls between two signals, even if
-        # the machine is busy.
+        # The timer counts the processor time of this process. So even on a busy machine, this process has time for
+        # calls between two signals.
         before = signal.signal(signal.SIGVTALRM, handler)
         messages = [stream((2 << 32).to_bytes(8, "little") + number.to_bytes(16, "little")) for number in range(20000)]
         try:
@@ -229,7 +230,7 @@ class Signals(unittest.TestCase):
 
     def read(self, found):
         """Reads a stream to its end, and returns the messages. An exception can come after the reader has counted a
-        message. This function then takes that message from `last`."""
+        message, and before `next` has returned it. This function then takes the message from `last`."""
         got, raised, number = [], 0, 0
         while True:
             try:

@@ -8,15 +8,15 @@ import capn
 CRATES = Path(__file__).resolve().parents[2] / "crates"
 CALLS = re.compile(
     r"(plain )?(canonicalise|is_canonical|survey|pack|unpack) .*|run \d+ hash --form (bare|stream) (?!--).*"
-    # Matches a test case with a packed stream only if its output is a line of 65 bytes. This line is one digest, so the
-    # stream has only one message.
+    # Matches a test case with a packed stream of one message. The output of such a case is one digest: a line of 65
+    # bytes.
     r"|run \d+ hash --form packed (?!--)[^|]*\|status 0, [0-9a-f]{130}"
 )
 
 
 def stored():
-    """Yields each stored test case with its result. A case has three lines. The second line is the call, and the third
-    line is the result."""
+    """Yields the call and the result of each stored test case. A case has three lines. The second line is the call, and
+    the third line is the result."""
     for file in sorted(CRATES.glob("conformance_*/cases/*")):
         for one in file.read_text().removesuffix("\n").split("\n\n"):
             _, case, answer = one.splitlines()
@@ -24,8 +24,8 @@ def stored():
 
 
 def cases():
-    """Returns the stored test cases that a call of the Python package can run, each with its result. The other cases
-    are only for the program or for the crates."""
+    """Returns the stored test cases that a call of the Python package can run, each with its result. Leaves out the
+    cases that need the program or a crate."""
     return [both for both in stored() if CALLS.fullmatch("|".join(both))]
 
 
@@ -86,9 +86,8 @@ class Stored(unittest.TestCase):
         answered = cases()
         self.assertGreater(len(answered), 500)
         for case, wanted in answered:
-            # There are two differences between the stored results and those of the library. The stored result of a
-            # check says at its end whether the message has a capability. A stored error of unpacking lacks the prefix
-            # `packed: `.
+            # The results of the library differ from the stored results in two points. The stored result of a check says
+            # at its end whether the message has a capability. A stored error of unpacking lacks the prefix `packed: `.
             wanted = re.sub(r", (no capability|capability \d+)$", "", wanted)
             wanted = re.sub(r"^(Cut|TooLong) at", r"packed: \g<0>", wanted)
             with self.subTest(case=case):

@@ -142,8 +142,8 @@ class Schemas(unittest.TestCase):
             (("pointers", [text("abc"), None]), [(0, "bytes"), (0, "null")], None, ["bytes", "null"]),
             (("rows", 1, 2, [([0x10003], [None, None]), ([4], [text("abc"), None])]), [(3, "null"), (4, "bytes")],
              [3, 4], ["null", "bytes"]),
-            # From a struct without words, the default is read as its number. From a struct without pointers, null is
-            # read as its pointer.
+            # If a struct has no words, the test reads the default as its number. If the struct has no pointers, the
+            # test reads null as its pointer.
             (("rows", 1, 0, [([5], [])]), [(5, "null")], [5], ["null"]),
             (("rows", 0, 1, [([], [text("abc")])]), [(0, "bytes")], [0], ["bytes"]),
             (("rows", 0, 0, [([], [])] * 2), [(0, "null")] * 2, [0, 0], ["null", "null"]),
@@ -185,7 +185,7 @@ class Schemas(unittest.TestCase):
         self.assertEqual((len(rows), rows[-1].uint(16, 0), rows[0].uint(16, 1, 9), rows[0].text(0, "none")),
                          (2, 1, 9, "none"))
         self.assertEqual([row.word(0) for row in rows[1:]], [1])
-        # The sender chooses how many elements a list has. So the exception for a missing element is also a
+        # The sender decides how many elements a list has. So if an element is missing, the exception is also a
         # `ValueError`.
         null, numbers = of(None), of(("rows", 1, 1, [([5], [None])]))
         for wrong in (lambda: rows[2], lambda: null.list()[0], lambda: null.rows()[0], lambda: null.numbers(16)[0],
@@ -220,8 +220,8 @@ class Schemas(unittest.TestCase):
         self.assertEqual(capn.read(message, "bare").root.struct().slot(0).rows()[0].uint(16, 0, default=7), 7)
 
     def test_structs_without_words_are_zeros_and_without_pointers_nulls(self):
-        # `long` is a list of two structs, which have one zero word each. `short` has the canonical bytes of `long`, in
-        # which the structs have no words.
+        # The message `long` is a list of two structs, which have one zero word each. The message `short` is the
+        # canonical bytes of `long`. Its structs have no words.
         long = [0x1000000000000, 0x1700000001, 0x100000008, 0, 0]
         short = [0x1000000000000, 0x700000001, 0x8]
         messages = [b"".join(word.to_bytes(8, "little") for word in words) for words in (long, short)]
@@ -237,8 +237,7 @@ class Schemas(unittest.TestCase):
                 self.assertRaises(capn.Mismatch, wrong)
 
     def test_texts_and_data(self):
-        # An exception that the sender causes is always a `Mismatch`. Besides `Mismatch`, this exception may have other
-        # base classes.
+        # An exception that the sender causes is always a `Mismatch`, though its class may also have other base classes.
         values = [None, ("struct", [1], [None]), ("list", 0, 3, b""), ("list", 1, 3, bytes(8)), text("abc"),
                   ("list", 3, 1, bytes(8)), ("pointers", [None]), ("rows", 1, 1, [([5], [None])]),
                   ("list", 2, 3, b"abc" + bytes(5)), ("list", 2, 0, b""), ("list", 2, 3, b"\xff\xfe\0" + bytes(5))]

@@ -232,8 +232,8 @@ class NoByteAfterIt(unittest.TestCase):
             self.assertIn(file.read(), (b"after", sent + b"after"))
 
     def test_a_group_that_two_messages_share(self):
-        # Packs all messages together. One group of packed bytes then has many messages without words, and also a part
-        # of another message.
+        # Packs all messages together. In the packed bytes, one group then stands for many messages without words and
+        # for a part of another message.
         text = capn.pack(SMALL * 3 + stream(b"") * 10 + SMALL)
         for file in io.BytesIO(text), Blocking([text]), Peeking([text]):
             self.assertEqual(list(capn.messages(file, packed=True)), [SMALL] * 3 + [stream(b"")] * 10 + [SMALL])
@@ -255,8 +255,8 @@ class Wound(unittest.TestCase):
         yield Failing(data)
 
     def each(self, parts, run):
-        """Runs a test on files of each kind that contain the given parts, packed or not. The test gets a file, its
-        reader, and the bytes of each part in the file."""
+        """Makes files of each kind with the given parts, packed and unpacked. Runs a test on each file. The test gets
+        the file, its reader, and the bytes of each part in the file."""
         with tempfile.TemporaryDirectory() as folder:
             for packed in False, True:
                 sent = [capn.pack(part) if packed else part for part in parts]
@@ -484,8 +484,8 @@ class AfterAnException(unittest.TestCase):
                     self.assertRaises(StopIteration, next, found)
 
     def pipes(self):
-        """Yields pipes, some of them buffered. With each pipe comes a function that packs a message for the pipe, or
-        leaves it unpacked."""
+        """Yields pipes, some of them buffered. Some pipes are for packed messages, and the others for unpacked ones.
+        With each pipe comes a function that turns a message into the bytes for this pipe."""
         for buffering in 0, -1:
             for packed in False, True:
                 read, write = os.pipe()
@@ -500,8 +500,8 @@ class AfterAnException(unittest.TestCase):
         try:
             for file, other, packed, sent in self.pipes():
                 if isinstance(file, io.BufferedReader):
-                    # Leaves out buffered files. If an exception is raised, a `BufferedReader` forgets the bytes that it
-                    # has read.
+                    # Leaves out buffered files, because a `BufferedReader` loses bytes that it has read if an exception
+                    # is raised.
                     continue
                 found = capn.messages(file, packed=packed)
                 for message in SHAPES[:3] * 2:
@@ -685,8 +685,8 @@ class AfterAnException(unittest.TestCase):
 
 
 class Ahead(unittest.TestCase):
-    """Tests readers with `read_ahead`. They return the same results as other readers, as soon as the bytes have come.
-    But they may take more bytes from the file than the returned message has."""
+    """Tests readers with `read_ahead`. They return the same results as other readers, and return each message as soon
+    as its bytes have come. But they may take more bytes from the file than the returned message has."""
 
     def test_the_same_answers(self):
         source = random.Random(67)
@@ -798,8 +798,8 @@ class Splitters(unittest.TestCase):
         refusals = []
 
         def once(call):
-            """Returns a function that makes the given call. When the call succeeds for the first time, the function
-            returns the status for out of memory instead."""
+            """Returns a function that makes the given call and returns its status. There is one exception: when the
+            call succeeds for the first time, the function returns the status for out of memory."""
             def little(*words):
                 status = call(*words)
                 if status == 0 and not refusals:

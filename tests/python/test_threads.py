@@ -98,8 +98,8 @@ class Workers:
 
 
 def stress(until):
-    """Runs two threads on each kind of stream, many times. Prints the errors, and the number of calls that were
-    rejected because the stream was in use."""
+    """Runs two threads on each kind of stream, many times. Prints the errors. Also prints how many calls were rejected
+    because the other thread was using the stream."""
     sys.setswitchinterval(1e-6)
     sent, busy = numbered(1500), 0
     wanted = collections.Counter(sent)
@@ -174,8 +174,8 @@ class Handlers(unittest.TestCase):
     """Tests a signal handler that uses the stream that the interrupted call is reading."""
 
     def reads_in_between(self, found, call, wanted):
-        """Makes a call on a stream. When this call calls a function in C, makes a second call. The second call has to
-        fail, since the stream is in use."""
+        """Makes a call on a stream. While this call is running, makes the same call a second time. The second call has
+        to fail, since the stream is in use."""
         wrong, got = [], []
 
         def watch(frame, event, _):
@@ -257,7 +257,7 @@ class TwoTasks(unittest.TestCase):
             reader.feed_data(capn.pack(first + second) if packed else first + second)
             reader.feed_eof()
             self.assertEqual([await waits, await anext(found)], [first, second])
-            # After its last message, the stream ends.
+            # The stream ends after its last message.
             with self.assertRaises(StopAsyncIteration):
                 await anext(found)
 

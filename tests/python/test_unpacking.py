@@ -16,7 +16,7 @@ MIB = 1 << 20
 
 
 def peak(call):
-    """Returns the result of a call, or its exception, and the most memory that the call used."""
+    """Makes a call. Returns two items: the result or the exception of the call, and the most memory that it used."""
     tracemalloc.start()
     try:
         try:
@@ -91,8 +91,8 @@ class Splitters(unittest.TestCase):
         self.assertLess(took, 16 * MIB)
 
     def test_as_many_as_were_fed_come_at_once(self):
-        # These packed bytes unpack to about as many bytes as the packed bytes of ordinary messages. So one call returns
-        # all their messages.
+        # These packed bytes unpack to about as many bytes as an ordinary packed stream does. So one call returns all
+        # messages in them.
         source = random.Random(5)
         parts = [stream(source.randbytes(8 * source.randint(0, 40))) for _ in range(60_000)]
         splitter = capn.Splitter("packed")

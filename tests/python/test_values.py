@@ -213,15 +213,15 @@ class Objects(unittest.TestCase):
             (lambda i: rows_of[i].words[0], lambda i: root.slots[0][i].words[0]),
             (lambda i: items[i][0], lambda i: root.slots[1][i][0]),
         ]:
-            # The list of the 3,000 offsets is made only once. If each access made the list again, the loop would take
-            # over 100 times as long.
+            # The package makes the list of the 3,000 offsets once, and not at each access. Otherwise the loop would
+            # take over 100 times as long.
             self.assertLess(seconds(again), 20 * seconds(held) + 0.05)
         self.assertEqual([root.slots[0][i].words[0] for i in range(3000)], list(range(3000)))
         self.assertEqual(rows_of[2999].slots[0].text(), "a")
 
 
 class Fields(unittest.TestCase):
-    """Tests the fields of messages that the tool `capnp` writes with a schema. The test reads the fields of the same
+    """Tests the fields of messages that the tool `capnp` writes with a schema. The test reads these fields by the same
     schema."""
 
     def encoded(self, kind, written):
@@ -250,7 +250,8 @@ class Fields(unittest.TestCase):
     def test_defaults(self):
         for kind in "Old", "New":
             self.assertEqual(self.fields(self.encoded(kind, "()")), self.USUAL)
-        # Reads structs without pointers and with too few words for their type. Each field has its default.
+        # Reads structs that have no pointers, and fewer words than their type. The result for each field is its
+        # default.
         for words in range(7):
             root = capn.read(bare(("struct", [0] * words, [])), "bare").root
             self.assertEqual(self.fields(root), self.USUAL)

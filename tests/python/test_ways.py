@@ -30,9 +30,9 @@ class Refusals(unittest.TestCase):
                     self.assertEqual(stop_of(refusal), ((1,), byte))
                 self.assertEqual(stop_of(refusal_of(capn.show, kind(data), form)), ((1,), byte))
         self.assertEqual(stop_of(refusal_of(capn.is_canonical_words, BARE)), ((1,), 24))
-        # If the error is at the root pointer, the path is empty. If the message has no root, the path is empty and the
-        # byte is None. If a far pointer leads to the error, the place is that of the far pointer, and not that of its
-        # landing pad.
+        # Each case has the path and the byte of the error. If the error is at the root pointer, the path is empty. If
+        # the message has no root, the path is empty and the byte is None. If a far pointer leads to the error, the
+        # place is that of the far pointer, and not that of its landing pad.
         self.assertEqual(stop_of(refusal_of(capn.check, stream(bytes(4) + b"\1" + bytes(3)))), ((), 8))
         self.assertEqual(stop_of(refusal_of(capn.check, far(BARE))), ((1,), 48))
         self.assertEqual(stop_of(refusal_of(capn.check, far(b""))), ((), 16))
@@ -55,8 +55,8 @@ class Refusals(unittest.TestCase):
         self.assertEqual(stop_of(capn.Refusal("Range at 0:3, paid 0, visits 0", "Range", (0, 3))), (None, None))
 
     def test_of_a_stream(self):
-        # The attribute `byte` counts from the start of the rejected message. The attribute `offset` is the offset of
-        # this message in the stream.
+        # The attribute `byte` is an offset from the start of the rejected message. The attribute `offset` is the offset
+        # of this message in the stream.
         good = stream(bytes(8))
         for packed in False, True:
             data = good * 2 + REFUSED + good

@@ -9,8 +9,8 @@ try:
 except ImportError:
 
     class Absent:
-        """A stand-in for the strategies of Hypothesis. Its results are never used, since the tests that need them are
-        skipped."""
+        """A stand-in for the strategies of Hypothesis. The tests that need strategies are skipped, so the results of
+        the stand-in are never used."""
 
         def __getattr__(self, name):
             return self

@@ -1,9 +1,9 @@
 // Writes what the reference implementation's library returns for the message on standard input. The message may have
 // any root. (The implementation's command line tool takes only structs as roots.) The first argument is one of these:
 // `canonical` for the first message of a stream, `canonical-packed` for a packed message, `is-canonical` for the words
-// of one segment, or `pack`, which writes the packed bytes of one message. The traversal limit in words and the nesting
-// limit may follow. Without them, the library uses its default limits. If the library rejects the message, the program
-// prints the reason and ends with status 1.
+// of one segment, or `pack` for the packed bytes of one message. The traversal limit in words and the nesting limit may
+// follow. Without them, the library uses its default limits. If the library rejects the message, the program prints the
+// reason and ends with status 1.
 #include <capnp/any.h>
 #include <capnp/message.h>
 #include <capnp/serialize-packed.h>

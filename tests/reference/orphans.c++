@@ -25,7 +25,7 @@ static uint64_t number() { return below(3) ? source() : 0; }
 
 // The orphans of a message. They live until the message is written.
 static std::vector<capnp::Orphan<capnp::AnyPointer>> orphans;
-// Whether the current message keeps its orphans until it is written.
+// Says whether the orphans of the current message are kept until the message is written.
 static bool keepsOrphans;
 
 static void make(capnp::AnyPointer::Builder to, unsigned depth);

@@ -1,9 +1,9 @@
 // Writes pairs of messages with builders of the reference implementation. `pairs SEED COUNT` writes the pairs as a
 // stream, which is the same in every run. In a pair with an even number, the two messages have one value in two
-// layouts. In a pair with an odd number, the values of the two messages differ in one place. Layouts differ in the
-// sizes of structs, in lists and elsewhere, as they do between an older and a newer schema. They also differ in the
-// order of objects, in the sizes of segments and so in the far pointers, and in the gaps where an object was moved or
-// dropped.
+// layouts. In a pair with an odd number, the values of the two messages differ in one place. Two layouts differ in the
+// sizes of structs, as between an older and a newer schema. Structs in lists differ in this way, too. Two layouts also
+// differ in the order of objects, in the sizes of segments, in the far pointers, and in the gaps where an object was
+// moved or dropped.
 #include <capnp/any.h>
 #include <capnp/message.h>
 #include <capnp/orphan.h>
@@ -28,7 +28,7 @@ static std::mt19937_64 source;
 
 static unsigned below(unsigned most) { return unsigned(source() % most); }
 
-// Returns a number without the bits that don't fit into an element of the given kind of list.
+// Returns the lowest bits of a number: as many as an element has in the given kind of list.
 static uint64_t cut(Kind kind, uint64_t number) {
   switch (kind) {
     case VOIDS: return 0;
@@ -119,7 +119,8 @@ public:
       case ROWS: putRows(value, to); break;
     }
     if (spare > 0 && below(6) == 0) {
-      // Takes the object out of its pointer, makes another object and drops it, and puts the first object back.
+      // Detaches the object from its pointer. Makes another object, and drops this other object. Then attaches the
+      // first object to the pointer again.
       auto moved = to.disown();
       waste(to);
       to.adopt(kj::mv(moved));
