@@ -15,8 +15,8 @@ BUILD = os.path.join(TOP, "build")
 # The crate of the library for C, and the log of its build. `rt ci` proves the crate, but doesn't build its archive.
 LIBRARY = "capn_c"
 LIBRARY_LOG = os.path.join(BUILD, "library.log")
-# The crates that only `make test-all` proves. They are programs without tests of their own, and `make test` runs these
-# programs without proving them.
+# The crates that only `make test-all` proves. They are programs without tests of their own. `make test` runs these
+# programs, but doesn't prove them.
 UNPROVED = ("bench",)
 
 
@@ -105,7 +105,7 @@ class Run:
         self.done, self.since, self.lines, self.after = 0, since or time.time(), [], []
 
     def when(self, names, call):
-        """Registers a function, which is called once, as soon as all the given crates are proved."""
+        """Registers a function. It is called once: when all the given crates are proved."""
         self.after.append((set(names), call))
 
     def look(self, line):

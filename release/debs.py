@@ -125,8 +125,8 @@ class Debs:
             return re.search(rf"^{name}: (.*)$", file.read(), re.M)[1]
 
     def needs(self, package, folder):
-        """Returns the dependencies that dpkg-shlibdeps finds for the files of a package. Also writes the package's list
-        of symbols."""
+        """Writes a package's list of symbols. Returns the dependencies that dpkg-shlibdeps finds for the files of the
+        package."""
         found = [os.path.join(folder, it) for it in packing.paths_of(folder)
                  if re.search(r"usr/bin/capn$|\.so(\.1)?$", it) and not os.path.islink(os.path.join(folder, it))]
         if not found:

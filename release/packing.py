@@ -17,7 +17,7 @@ TOP = os.path.abspath(os.path.join(os.path.dirname(os.path.abspath(__file__)), "
 with open(os.path.join(TOP, "VERSION"), encoding="utf-8") as _file:
     VERSION = _file.read().strip()
 # The version in the notation of Python packages (PEP 440), and in the notation of Debian packages. In both notations,
-# the version 1.1.0-dev sorts before 1.1.0.
+# the development version 1.1.0-dev is lower than 1.1.0.
 VERSION_OF_PYTHON, VERSION_OF_DEBIAN = VERSION.replace("-dev", ".dev0"), VERSION.replace("-dev", "~dev")
 # The built files that are packed, with their names in the file PROVED.
 BUILT = {
@@ -69,8 +69,8 @@ def commit_of(top=TOP):
 
 
 def proof(commit, tree, is_clean):
-    """Returns the text of the file PROVED. Fails unless `make test-all` wrote PROVED for this tree and these built
-    files."""
+    """Returns the text of the file PROVED. Fails unless `make test-all` has written PROVED for the given tree and for
+    the files that are built now."""
     if not os.path.exists(PROVED):
         raise Stop("the whole run has not passed here: make test-all")
     with open(PROVED, encoding="utf-8") as file:
