@@ -96,7 +96,7 @@ WITH_LIMITS(capn_annotate,
              size_t most_lines, capn_report *report),
             (form, bytes, size, limits, lines, most_lines, report))
 
-/* Defines a call that takes two messages. Not only its other arguments, but also its argument `which` may be null. */
+/* Defines a call that takes two messages. Its argument `which` may be null, too, like `limits` and `report`. */
 HIDDEN capn_status proved_capn_same(uint32_t form, const uint8_t *a, size_t size_a, const uint8_t *b, size_t size_b,
                                     const capn_limits *limits, uint32_t *which, capn_report *report);
 static SELDOM capn_status capn_same_by_default(uint32_t form, const uint8_t *a, size_t size_a, const uint8_t *b,

@@ -442,7 +442,7 @@ def clicked(browser, scheme):
 
 
 def unfolded(browser, path, name):
-    """Opens the page of a large message, at a word inside a fold."""
+    """Opens the page of a large message, and goes to a word inside a fold."""
     browser.call("Performance.enable", timeDomain="threadTicks")
     want(f"{name}: the page opens", browser.open(path, "light"))
     opened = browser.busy()
