@@ -1,5 +1,5 @@
-"""The shared code of the scripts that prove crates. It reads crates.txt, copies crates, runs `rt ci`, prints a line
-when a crate is done, and builds the library for C."""
+"""Code that the scripts which prove crates share. It reads crates.txt, copies crates, runs `rt ci`, prints a line when
+a crate is done, and builds the library for C."""
 
 import glob
 import os
@@ -15,8 +15,8 @@ BUILD = os.path.join(TOP, "build")
 # The crate of the library for C, and the log of its build. `rt ci` proves the crate, but doesn't build its archive.
 LIBRARY = "capn_c"
 LIBRARY_LOG = os.path.join(BUILD, "library.log")
-# The crates that only `make test-all` proves. They are programs without tests of their own, and `make test` runs these
-# programs without proving them.
+# The crates that only `make test-all` proves. They are programs without tests of their own. `make test` runs these
+# programs, but doesn't prove them.
 UNPROVED = ("bench",)
 
 
@@ -30,7 +30,8 @@ def text_of(path):
 
 
 def crates(top=TOP):
-    """Returns each crate with the crates of this repository that it uses, in the order of crates.txt."""
+    """Returns all crates in the order of crates.txt. For each crate, also returns the crates of this repository that it
+    uses."""
     lines = re.findall(r"^(\w+)(?: staticlib)?:(.*)$", text_of(os.path.join(top, "crates.txt")), re.M)
     names = {name for name, _ in lines}
     return {name: [it for it in used.split() if it in names] for name, used in lines}
@@ -60,7 +61,7 @@ def edits_of(name):
 
 
 def proved_by_the_gate(uses):
-    """Returns the crates that `make test` proves. `make test` only runs the other crates, and doesn't prove them."""
+    """Returns the crates that `make test` proves. `make test` runs all other crates without proving them."""
     return below([it for it in uses if it not in UNPROVED and not has_tests(it)], uses)
 
 
@@ -93,8 +94,8 @@ def minutes(since):
 
 
 class Run:
-    """A run of `rt ci` in a folder. The output of `rt ci` goes into a file. The run prints a line when a crate is
-    done."""
+    """A run of `rt ci` in a folder. The output of `rt ci` goes into a file. When a crate is done, the object prints a
+    line about it."""
 
     DONE = re.compile(r"^rt: (\w+)(: its tests are)? (proved|is kept|NOT PROVED)")
     TRIES = re.compile(r"^rt: (\w+): trying its must-fail edits \((\d+)\)")
@@ -104,7 +105,7 @@ class Run:
         self.done, self.since, self.lines, self.after = 0, since or time.time(), [], []
 
     def when(self, names, call):
-        """Registers a function, which is called once, as soon as all the given crates are proved."""
+        """Registers a function. It is called once: when all the given crates are proved."""
         self.after.append((set(names), call))
 
     def look(self, line):
@@ -140,7 +141,8 @@ class Run:
             return ran.wait() == 0
 
     def failures(self):
-        """Returns the prover's output for each crate that isn't proved, and the last lines that `rt ci` printed."""
+        """Returns the last lines that `rt ci` printed. For each crate that isn't proved, also returns the output of the
+        prover."""
         text = "\n".join(self.lines)
         lines = r"^== \w+(?:: its tests)?\n(?:(?!^== ).*\n)*?^rt: \w+(?:: its tests are)? NOT PROVED.*$"
         parts = re.findall(lines, text, re.M)
@@ -160,8 +162,8 @@ def kit():
 
 
 def library_started(top, jobs):
-    """Starts the command that proves the library for C and builds its archive, and returns the running command. The
-    command uses compiled libraries that an earlier run left in the folders out/ of the crates below `top`."""
+    """Starts the command that proves the library for C and builds its archive, and returns the running command. If an
+    earlier run left compiled libraries in the folders out/ of the crates below `top`, the command uses them."""
     kit_folder, folder = kit(), os.path.join(TOP, "crates", LIBRARY)
     words = ["-L", f"dependency={kit_folder}/rlibs"]
     for it in sorted(glob.glob(os.path.join(top, "crates", "*", "out", "rlib"))):

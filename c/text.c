@@ -1,5 +1,6 @@
-/* The texts of the library: its version, a text for each status, and the text of an error with its place. The code of
- * this file isn't proved (formally verified). It keeps no state, and reads and writes only its arguments. */
+/* The texts of the library: the version of the library, a text for each status, and a text for an error together with
+ * its place. The code of this file isn't proved (formally verified). It keeps no state, and reads and writes only its
+ * arguments. */
 #include "capn.h"
 
 #ifndef CAPN_VERSION_TEXT
@@ -86,7 +87,8 @@ const char *capn_status_name(capn_status status) {
     }
 }
 
-/* A buffer that receives as much of a text as fits into it. `length` is the length of the whole text. */
+/* A buffer for a text. If the text doesn't fit, the buffer receives only its beginning. `length` is the length of the
+ * whole text. */
 struct text {
     char *out;
     size_t room, length;

@@ -17,8 +17,8 @@ LIBRARIES = "/usr/lib/x86_64-linux-gnu"
 
 
 class Debs:
-    """A mixin with the methods that make Debian packages. A class with this mixin needs a folder `work`, a time
-    `seconds`, a text `proved`, a `debian_version` and a list `made`."""
+    """A mixin with the methods that make Debian packages. A class that uses this mixin needs five attributes: a folder
+    `work`, a time `seconds`, a text `proved`, a `debian_version` and a list `made`."""
 
     def debs(self, has_wheel):
         """Makes all Debian packages. Each package has some of the staged files, and its own control files."""
@@ -59,7 +59,8 @@ class Debs:
             self.deb(package, os.path.join(self.work, "deb", package))
 
     def deb(self, package, folder):
-        """Builds one Debian package from its files and from its templates in release/debian."""
+        """Builds one Debian package from the files of the package, and from the templates of the package in
+        release/debian."""
         pages = os.path.join(folder, "usr/share/doc", package)
         os.makedirs(pages, exist_ok=True)
         for name in ("LICENSE", "NOTICE"):
@@ -83,8 +84,8 @@ class Debs:
             with open(overrides, encoding="utf-8") as file:
                 text = file.read()
             if not self.proved:
-                # Leaves out an override that is right only for a released version, and not for a version in
-                # development.
+                # Some overrides are right for a released version, but not for a version in development. Leaves out such
+                # an override for a version in development.
                 text = re.sub(r"#.*\n.*initial-upload.*\n", "", text)
             write(os.path.join(folder, "usr/share/lintian/overrides", package), text)
         control = os.path.join(folder, "DEBIAN")
@@ -124,8 +125,8 @@ class Debs:
             return re.search(rf"^{name}: (.*)$", file.read(), re.M)[1]
 
     def needs(self, package, folder):
-        """Returns the dependencies that dpkg-shlibdeps finds for the files of a package. Also writes the package's list
-        of symbols."""
+        """Writes a package's list of symbols. Returns the dependencies that dpkg-shlibdeps finds for the files of the
+        package."""
         found = [os.path.join(folder, it) for it in packing.paths_of(folder)
                  if re.search(r"usr/bin/capn$|\.so(\.1)?$", it) and not os.path.islink(os.path.join(folder, it))]
         if not found:

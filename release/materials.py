@@ -10,8 +10,8 @@ from packing import VERSION
 
 
 def listed(made, seconds, commit, tree):
-    """Returns the list of software components of the given files in the SPDX 2.3 format. The list gives no concluded
-    licence for a file, because some components in the files have no stated licence."""
+    """Returns the list of software components of the given files, in the SPDX 2.3 format. For some components in the
+    files, no licence is stated. Therefore the list gives no concluded licence for a file."""
     paths = {os.path.basename(it): it for it in made}
     day = datetime.datetime.fromtimestamp(seconds, datetime.timezone.utc)
     packages, relations, texts = [], [], {}

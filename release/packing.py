@@ -1,5 +1,5 @@
-"""Shared code of the release scripts: names, tools, and functions that write archives with the same bytes on each
-machine."""
+"""Shared code of the release scripts: names, tools, and functions that write archives. On every machine, these
+functions write the same bytes."""
 
 import gzip
 import hashlib
@@ -17,7 +17,7 @@ TOP = os.path.abspath(os.path.join(os.path.dirname(os.path.abspath(__file__)), "
 with open(os.path.join(TOP, "VERSION"), encoding="utf-8") as _file:
     VERSION = _file.read().strip()
 # The version in the notation of Python packages (PEP 440), and in the notation of Debian packages. In both notations,
-# the version 1.1.0-dev sorts before 1.1.0.
+# the development version 1.1.0-dev is lower than 1.1.0.
 VERSION_OF_PYTHON, VERSION_OF_DEBIAN = VERSION.replace("-dev", ".dev0"), VERSION.replace("-dev", "~dev")
 # The built files that are packed, with their names in the file PROVED.
 BUILT = {
@@ -59,7 +59,8 @@ def sum_of(path):
 
 
 def commit_of(top=TOP):
-    """Returns the current commit of a clone, its tree, its time in seconds, and whether the clone has no changes."""
+    """Returns four things about a clone: its current commit, the tree of this commit, the time of this commit in
+    seconds, and whether the clone has no changes."""
     try:
         commit, tree, seconds = said("git", "show", "-s", "--format=%H %T %ct", "HEAD", cwd=top).split()
         return commit, tree, int(seconds), not said("git", "status", "--porcelain", cwd=top).strip()
@@ -68,8 +69,8 @@ def commit_of(top=TOP):
 
 
 def proof(commit, tree, is_clean):
-    """Returns the text of the file PROVED. Fails unless `make test-all` wrote PROVED for this tree and these built
-    files."""
+    """Returns the text of the file PROVED. Fails unless `make test-all` has written PROVED for the given tree and for
+    the files that are built now."""
     if not os.path.exists(PROVED):
         raise Stop("the whole run has not passed here: make test-all")
     with open(PROVED, encoding="utf-8") as file:
@@ -89,8 +90,8 @@ def installed(folder, prefix, libraries, *words):
     """Runs `make install` and `make install-library` into a folder, and returns the folder. Passes the given words to
     make."""
     words = [f"DESTDIR={folder}", f"PREFIX={prefix}", f"LIBDIR={libraries}", *words]
-    # Removes the options of the `make` that runs this script, such as a prefix. The `make` that this script starts must
-    # not get them.
+    # Removes the options that were passed to the `make` that runs this script, such as a prefix. The `make` that this
+    # script starts must not get these options.
     env = {key: value for key, value in os.environ.items() if not key.startswith("MAKE") and key != "MFLAGS"}
     said("make", "--no-print-directory", "install", "install-library", *words, env=env)
     return folder
@@ -134,8 +135,8 @@ def paths_of(folder):
 
 
 def write_tar(folder, path, seconds):
-    """Packs a folder whose files already have the right modes and times. The files are sorted by name, and belong to
-    root."""
+    """Packs a folder whose files already have the right modes and times. In the archive, the files are sorted by name,
+    and belong to root."""
     whole = io.BytesIO()
     with tarfile.open(fileobj=whole, mode="w", format=tarfile.GNU_FORMAT) as tar:
         for name in paths_of(folder):
@@ -153,7 +154,7 @@ def write_tar(folder, path, seconds):
 
 
 def write_zip(folder, names, path, seconds):
-    """Packs files of a folder in the given order. All files get the same time and mode."""
+    """Packs files of a folder in the given order. In the archive, all files have the same time and mode."""
     stamp = time.gmtime(max(seconds, 315532800))[:6]
     with zipfile.ZipFile(path, "w", zipfile.ZIP_DEFLATED, compresslevel=9) as whole:
         for name in names:
@@ -166,7 +167,7 @@ def write_zip(folder, names, path, seconds):
 
 
 def proved_in(path):
-    """Returns the text of the file PROVED that is inside a released file. Returns None if it isn't there."""
+    """If a released file contains the file PROVED, returns the text of PROVED. Otherwise returns None."""
     try:
         if path.endswith(".tar.gz"):
             with tarfile.open(path) as tar:
@@ -186,8 +187,8 @@ def proved_in(path):
 
 
 def claims_of(text):
-    """Returns the head lines and the hashes in the text of PROVED, as a dictionary. A key is the beginning of a
-    line."""
+    """Returns the head lines and the hashes of the file PROVED as a dictionary. Its keys are the beginnings of
+    lines."""
     return dict(re.findall(r"^(commit|tree|toolchain|sha256 \S+) (.+)$", text, re.M))
 
 

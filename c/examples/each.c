@@ -1,6 +1,6 @@
 /* each FILE: prints the digest of each message of a stream, in hexadecimal. For an invalid message, the program prints
- * the message's number, its offset and the error to standard error, and goes on with the next message. It exits with 1
- * if a message is invalid, 2 on wrong usage, and 3 if the file cannot be read. */
+ * the number of the message, its offset and the error to standard error. It then continues with the next message. It
+ * exits with 1 if a message is invalid, 2 on wrong usage, and 3 if the file cannot be read. */
 #include "each.h"
 #include <stdio.h>
 #include <stdlib.h>

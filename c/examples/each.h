@@ -1,5 +1,5 @@
-/* Reads each message of a stream in memory. The function capn_first reads the segment table of a message, and reports
- * the length of the message. */
+/* Reads the messages of a stream that is in memory. The function capn_first reads the segment table of a message, and
+ * reports the length of the message. */
 #ifndef CAPN_EACH_H
 #define CAPN_EACH_H
 #include "capn.h"

@@ -1,5 +1,6 @@
-/* index FILE: prints the tree of an untrusted message without a schema, from the message's index. It prints a line for
- * each pointer. It exits with 1 if the message is invalid, 2 on wrong usage, and 3 if the file cannot be read. */
+/* index FILE: prints the tree of an untrusted message. The program needs no schema, because it uses the index of the
+ * message. It prints a line for each pointer. It exits with 1 if the message is invalid, 2 on wrong usage, and 3 if the
+ * file cannot be read. */
 #include "capn.h"
 #include "capn_fields.h"
 #include <inttypes.h>
@@ -9,7 +10,7 @@
 static const char *const kinds[] = {"null", "struct", "void", "bits", "bytes", "u16", "u32", "u64", "pointers", "rows",
                                     "capability"};
 
-/* Prints entry i of the index, and all entries below it. The first entry below it is entry i + 1. `span` is the number
+/* Prints entry i of the index, and all entries below entry i. The first of these is entry i + 1. `span` is the number
  * of entries from an entry to its next sibling. */
 static void print_entry(const capn_entry *all, size_t i, int level, const uint8_t *bytes) {
     const capn_entry *e = &all[i];
@@ -22,9 +23,9 @@ static void print_entry(const capn_entry *all, size_t i, int level, const uint8_
 }
 
 int main(int count, char **words) {
-    /* The program copies the message into its own memory, so that nobody changes the message while it is read. The
-     * buffer has room for one byte more than the longest accepted message, so a longer message is detected and
-     * rejected. */
+    /* The program copies the message into its own memory, so that nobody can change the message while the program reads
+     * it. The buffer has room for one byte more than the longest accepted message. So the program notices that a
+     * message is longer, and rejects it. */
     static uint8_t bytes[(1 << 20) + 1];
     capn_limits limits = CAPN_USUAL_LIMITS;
     limits.message_words = 1 << 17;

@@ -1,8 +1,8 @@
 /* stream: prints the digest of each message of a stream on standard input, in hexadecimal. The stream may have any
  * length. `capn_first` says how many bytes the current message needs, so the program reads no byte after this message.
- * For an invalid message, the program prints the message's number, its offset and the error to standard error, and goes
- * on with the next message. It exits with 1 if a message is invalid or the stream is truncated, and 2 if reading
- * fails. */
+ * For an invalid message, the program prints the number of the message, its offset and the error to standard error. It
+ * then continues with the next message. It exits with 1 if a message is invalid or the stream is truncated, and 2 if
+ * reading fails. */
 #include "capn.h"
 #include <errno.h>
 #include <stdio.h>
@@ -26,8 +26,8 @@ int main(void) {
     for (;;) {
         status = capn_first(bytes, have, &limits, &report);
         if (status == CAPN_FRAME_EMPTY || status == CAPN_FRAME_CUT) {
-            /* The buffer grows as bytes arrive. A segment table can announce a great length, but the buffer doesn't
-             * grow to it at once. */
+            /* The buffer grows as bytes arrive. Even if a segment table announces a great length, the buffer doesn't
+             * grow to that length at once. */
             const size_t need = report.length;
             if (have == room) {
                 room = room ? 2 * room : 4096;

@@ -1,5 +1,5 @@
-/* survey FILE: prints a summary of a message, with the lowest limits that accept the message. It exits with 1 if the
- * message is invalid, 2 on wrong usage, and 3 if the file cannot be read. */
+/* survey FILE: prints a summary of a message. The summary has the lowest limits with which the message is accepted. It
+ * exits with 1 if the message is invalid, 2 on wrong usage, and 3 if the file cannot be read. */
 #include "capn.h"
 #include <stdio.h>
 

@@ -28,7 +28,7 @@ HERE = os.path.dirname(os.path.abspath(__file__))
 PAGE = os.path.join(HERE, "page")
 CAPN = os.environ.get("CAPN", "capn")
 SECONDS, LARGE = 120, 1_000_000
-# Texts that would begin or end an element, an attribute or a script if the page didn't escape them.
+# Texts that a page has to escape, because they would begin or end an element, an attribute or a script.
 NASTY = [b"</script><script>window.evil=1</script>", b"<!--<script>", b"\" onclick=\"window.evil=1", b"' autofocus x='",
          b"</style></title></noscript>", b"&lt;&#60;&amp", b"]]></div></main>",
          b"\\u003cscript\\u003e<img src=x onerror=evil()>"]
@@ -101,7 +101,7 @@ def annotated(message, *words):
 
 
 def paged(lines, message=None):
-    """Returns three results of `page`: its exit status, the page, and its output on standard error."""
+    """Runs `page`, and returns its exit status, the page that it wrote, and its output on standard error."""
     with tempfile.TemporaryDirectory() as folder:
         given = []
         if message is not None:
@@ -113,7 +113,8 @@ def paged(lines, message=None):
 
 
 class Elements(html.parser.HTMLParser):
-    """The elements of a page: words, lines, folds and scripts. If `unfold` is set, also those inside the folds."""
+    """The elements of a page: words, lines, folds and scripts. If `unfold` is set, the elements inside the folds belong
+    to them, too."""
 
     def __init__(self, text, unfold=True):
         super().__init__()
@@ -174,7 +175,8 @@ def columns_of(lines):
 
 
 def has_words(name, message, lines, page, begin=0):
-    """Tests that a page has each word of a message once, with its bytes, and each line with its columns."""
+    """Tests that a page has each word of a message once, with the word's bytes. Also tests that the page has each line
+    with all columns of the line."""
     places = [byte for byte, _, _ in page.words]
     want(f"{name}: each word once, in order", places == list(range(begin, begin + len(message), 8)))
     for byte, _, pairs in page.words:
@@ -192,7 +194,8 @@ def hidden_of(lines):
 
 
 def pages():
-    """Makes pages for some messages, and reads these pages. Returns the pages that a browser then opens."""
+    """Makes pages for some messages, and reads these pages. Returns the pages that are to be opened in a browser
+    later."""
     made = {}
     for name, message, form in [("every kind", every_kind(), "stream"), ("double", double(), "stream"),
                                 ("bare", every_kind()[16:128], "bare"), ("two", every_kind() * 2, "stream")]:
@@ -216,7 +219,8 @@ def pages():
 
 
 def nasty():
-    """Makes pages from messages with parts of HTML, and from lines with parts of HTML. Returns one of the pages."""
+    """Makes pages from messages whose texts have parts of HTML, and from lines that have parts of HTML. Returns one of
+    these pages."""
     message = b"".join(map(text_of, NASTY))
     lines = annotated(message)
     _, text, _ = paged(lines, message)
@@ -356,7 +360,7 @@ class Browser:
         self.call("Input.dispatchKeyEvent", type="keyUp", key=key, code=key, **text)
 
     def busy(self):
-        """Returns the seconds for which the page used a processor."""
+        """Returns how many seconds of processor time the page has used."""
         found = self.call("Performance.getMetrics")["metrics"]
         return next(one["value"] for one in found if one["name"] == "TaskDuration")
 
@@ -384,8 +388,9 @@ SEEN = """
   return box.height > 0 && box.top >= 0 && box.bottom <= innerHeight;
 })()
 """
-# The lowest contrast between the text of a word and its background, over all kinds of words. By the rules for
-# accessible pages, the contrast is (L1 + 0.05) / (L2 + 0.05), where L1 is the greater and L2 the lesser luminance.
+# For each kind of word, there is a contrast between the word's text and its background. This is the lowest of these
+# contrasts. By the rules for accessible pages, the contrast is (L1 + 0.05) / (L2 + 0.05), where L1 is the greater and
+# L2 the lesser luminance.
 CONTRAST = """
 (() => {
   const level = (text) => {
@@ -437,7 +442,7 @@ def clicked(browser, scheme):
 
 
 def unfolded(browser, path, name):
-    """Opens the page of a large message, at a word inside a fold."""
+    """Opens the page of a large message, and goes to a word inside a fold."""
     browser.call("Performance.enable", timeDomain="threadTicks")
     want(f"{name}: the page opens", browser.open(path, "light"))
     opened = browser.busy()

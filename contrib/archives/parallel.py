@@ -1,5 +1,6 @@
 #!/usr/bin/env python3
-"""Runs a command of `capn` over an archive on several processors. Usage: parallel.py ARCHIVE COMMAND [OPTION..]
+"""Runs a command of `capn` on an archive, and uses several processors for it. Usage: parallel.py ARCHIVE COMMAND
+[OPTION..]
 
 COMMAND is `hash`, `check`, `list` or `canonical --framed`. The archive is split between messages, at offsets that `capn
 list` writes. A process of its own reads each part. The results are put together in order, with the numbers and offsets
@@ -33,8 +34,8 @@ PASSED_OVER = re.compile(rb"capn: (\d+) of (\d+) messages refused, the first is 
 
 class Part(NamedTuple):
     """A part of an archive: how many messages are before the part, where it begins, how many messages it has, and where
-    it ends. A part has complete messages. The last part has no end: it is the rest of the archive, and may have any
-    bytes."""
+    it ends. A part has only complete messages, except for the last part. The last part is the rest of the archive,
+    which may have any bytes, and its end isn't given."""
 
     before: int
     begin: int
@@ -93,7 +94,7 @@ def answer(path: str, part: Part, command: list[str]) -> Answer:
 
 def answers(path: str, parts: Iterator[Part], command: list[str], processes: int) -> Iterator[Answer]:
     """Runs the command on each part in a process of its own, and yields the outputs in order. While all processes are
-    busy, a few more parts wait."""
+    busy, a few more parts are already waiting."""
     waiting: deque[Future[Answer]] = deque()
     with ProcessPoolExecutor(processes) as pool:
         try:
@@ -108,8 +109,8 @@ def answers(path: str, parts: Iterator[Part], command: list[str], processes: int
 
 
 def put_together(found: Iterator[Answer]) -> tuple[bytes, int]:
-    """Writes the output for each part, up to the first error. Returns the lines for standard error, and the exit
-    status."""
+    """Writes the outputs for the parts, up to the first error. Returns the exit status, and the lines for standard
+    error."""
     refused, messages, first = 0, 0, b""
     for it in found:
         sys.stdout.buffer.write(it.output)
@@ -129,8 +130,8 @@ def put_together(found: Iterator[Answer]) -> tuple[bytes, int]:
 
 
 def limits_of(options: list[str]) -> list[str]:
-    """From the options of the command, returns those that set limits. The script also uses these limits when it splits
-    the archive."""
+    """Returns those options of the command that set limits. The script uses the same limits when it splits the
+    archive."""
     found: list[str] = []
     for at, option in enumerate(options):
         if option in LIMITS:

@@ -23,8 +23,8 @@ from contextlib import closing
 from itertools import islice
 from typing import NamedTuple
 
-# `capn list` counts costs by the rule `plain`, which counts only words. If a message uses all of its words, its cost is
-# one less than its number of words, because the root pointer isn't counted.
+# `capn list` counts costs by the rule `plain`, which counts only words. The cost of a message that uses all of its
+# words is one less than its number of words, because the rule doesn't count the root pointer.
 LIST = [os.environ.get("CAPN", "capn"), "list", "--keep-going", "--tariff", "plain"]
 LIMITS = [LIST[0], "limits"]
 LINE = re.compile(rb"\d+ at (\d+) bytes (\d+) segments \d+ words (\d+) (?:paid (\d+) |refused (.*))")
@@ -32,7 +32,8 @@ FAULT = re.compile(rb"capn: message \d+ at (\d+): (.*)")
 # Matches the beginning of a possible segment table. The table announces at most 4,096 segments, and its first segment
 # isn't empty. The table may begin at any byte, since some bytes may be lost.
 TABLE = re.compile(rb"(?=.[\0-\x0f]\0\0(?!\0{4}))", re.DOTALL)
-# One process of `capn` checks at most MOST_ROWS rows of messages, and not much more than MOST_BYTES bytes.
+# The limits on what one process of `capn` checks: at most MOST_ROWS rows of messages, and not much more than MOST_BYTES
+# bytes.
 MOST_ROWS, MOST_BYTES = 1 << 12, 1 << 24
 
 
@@ -52,8 +53,8 @@ class Message(NamedTuple):
 
 
 class Span(NamedTuple):
-    """A range of bytes of an archive. The bytes are complete messages that are kept, or bytes that are skipped because
-    of an error. A skipped range also has the error."""
+    """A range of bytes of an archive. Either the range has complete messages, and is kept, or it is skipped because of
+    an error. A skipped range also has the error."""
 
     begin: int
     end: int
@@ -62,7 +63,8 @@ class Span(NamedTuple):
 
 
 def message_of(line: bytes, offset: int) -> Message:
-    """Returns the message that a line of `capn list` describes. `capn list` began to read the archive at `offset`."""
+    """Returns the message that a line of `capn list` describes. `offset` is the place in the archive at which
+    `capn list` began to read."""
     found = LINE.match(line)
     if not found:
         raise RuntimeError(f"not a line of capn list: {line!r}")
@@ -72,8 +74,8 @@ def message_of(line: bytes, offset: int) -> Message:
 
 
 def listed(path: str, offset: int) -> Iterator[Message]:
-    """Yields the messages of a file from an offset on. If an invalid segment table ends the list, yields its error
-    last."""
+    """Yields the messages of a file from an offset on. If `capn list` stops at an invalid segment table, yields the
+    error of this segment table last."""
     with open(path, "rb", buffering=0) as archive, tempfile.TemporaryFile() as errors:
         archive.seek(offset)
         with subprocess.Popen(LIST, stdin=archive, stdout=subprocess.PIPE, stderr=errors) as listing:
@@ -110,8 +112,8 @@ class Sample:
             self.has_null = self.has_null or cost == 0
 
     def takes(self, message: Message) -> bool:
-        """Returns whether a message is accepted. Two words of garbage can look like a message whose root is null. So a
-        message with a null root counts as accepted only if the sample has one."""
+        """Returns whether the script accepts a message. Two words of garbage can look like a message whose root is
+        null. So the script accepts a message with a null root only if the sample also has such a message."""
         return message.cost is not None and (message.cost > 0 or self.has_null)
 
     def is_like(self, message: Message) -> bool:
@@ -165,8 +167,8 @@ class Archive:
 
     def ends(self, at: int) -> list[int]:
         """Returns the ends of the messages in a row that begins at byte `at`. The ends come from the messages' segment
-        tables. Returns no ends if `end` returns 0 for a message. Otherwise the row has fewer messages than `self.row`
-        only if the archive ends first."""
+        tables. If `end` returns 0 for one of the messages, returns no ends. Otherwise the row has `self.row` messages,
+        or fewer if the archive ends first."""
         ends: list[int] = []
         while len(ends) < self.row and at < self.size:
             at = self.end(at)
@@ -192,8 +194,8 @@ class Archive:
         return at + table + 8 * words if words <= self.sample.words else 0
 
     def first_good(self, rows: list[tuple[int, list[int]]]) -> int:
-        """Returns the beginning of the first row whose messages are all good, or 0 if there is no such row. One process
-        of `capn` checks all rows."""
+        """Looks for the first row whose messages are all good. Returns where this row begins, or 0 if there is no such
+        row. One process of `capn` checks all rows."""
         frames = b"".join(self.data[begin:ends[-1]] for begin, ends in rows if ends)
         lines = subprocess.run(LIST, input=frames, capture_output=True, check=False).stdout.splitlines()
         messages = (message_of(line, 0) for line in lines)
@@ -204,9 +206,10 @@ class Archive:
         return 0
 
     def between(self, bad: Message, good: int) -> Iterator[Span]:
-        """Yields spans of the bytes from a bad message up to the next message that is like the sample. If the segment
-        tables lead from the bad message exactly to this next message, they say where each message between the two
-        begins. An accepted message between the two is then kept, even if it isn't like the sample."""
+        """Yields spans of the bytes from a bad message up to the next message that is like the sample. The segment
+        tables may lead from the bad message exactly to this next message. In this case, they say where each message
+        between the two begins. The script then keeps every accepted message between the two, even if it isn't like the
+        sample."""
         end = bad.begin
         with closing(listed(self.path, bad.begin)) as found:
             for message in found:

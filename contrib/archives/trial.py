@@ -21,8 +21,8 @@ from messages import canonical, framed, in_two_segments, with_zeros
 
 CAPN = os.environ["CAPN"]
 MEGABYTE = 1 << 20
-# The messages after a damaged segment table are repeated this number of times. One damaged table announces 5,000 words.
-# The repeated messages have so many words that the 5,000 words end inside the archive.
+# The test repeats the messages after a damaged segment table this number of times. One damaged table announces 5,000
+# words. Because the repeated messages have more words than that, the 5,000 words end inside the archive.
 MANY = 6
 Ran = tuple[bytes, str, int]
 Place = tuple[int, int, str]
@@ -40,7 +40,7 @@ def see(is_so: bool, what: str) -> None:
 
 
 def seconds() -> float:
-    """Returns the processor time that the child processes have used so far."""
+    """Returns how much processor time the child processes of this script have used so far."""
     used = resource.getrusage(resource.RUSAGE_CHILDREN)
     return used.ru_utime + used.ru_stime
 
@@ -77,14 +77,14 @@ def recovered(what: str, damaged: bytes, kept: list[bytes], *places: Place, opti
 
 
 def nested(inner: bytes) -> bytes:
-    """Returns a message whose only data is another message."""
+    """Returns a message that has another message as its only data."""
     words = struct.unpack(f"<{len(inner) // 8}Q", inner)
     return framed([1 << 48, 1 | 2 << 32 | len(inner) << 35, *words])
 
 
 def sized(message: bytes, words: int) -> bytes:
-    """Changes the segment table of a message of one segment, so that it announces `words` words. Returns the changed
-    message."""
+    """Takes a message of one segment, and changes its segment table: the table then announces `words` words. Returns
+    the changed message."""
     return message[:4] + struct.pack("<I", words) + message[8:]
 
 
@@ -125,8 +125,8 @@ def recover(source: random.Random, messages: list[bytes]) -> None:
     recovered("a message with a gap", head + gap + tail, before + [gap] + after)
     last = len(messages[-1])
     recovered("a cut", (head + tail)[:-8], messages[:-1], (len(head + tail) - last, last - 8, "frame: Cut"))
-    # A rejected message contains another message. recover.py takes the inner message for a message of the archive,
-    # unless its option `--nested` says that messages may contain other messages.
+    # A rejected message contains another message. recover.py treats the inner message as a message of the archive,
+    # unless it gets the option `--nested`. This option says that messages may contain other messages.
     holder = nested(after[0])
     holder = holder[:23] + b"\x7f" + holder[24:]
     fault = fault_of(holder)
@@ -138,8 +138,8 @@ def recover(source: random.Random, messages: list[bytes]) -> None:
 
 
 def parallel(messages: list[bytes]) -> None:
-    """Compares parallel.py, which runs one process for each part of an archive, with one process for the whole archive.
-    Some archives are valid, some have rejected messages, and some are truncated."""
+    """parallel.py runs one process for each part of an archive. Compares its output with the output of one process for
+    the whole archive. Some archives are valid, some have rejected messages, and some are truncated."""
     some = [it if n % 70 else REFUSED for n, it in enumerate(messages)]
     capability = framed([1 << 48, 3])
     archives = {
@@ -175,8 +175,9 @@ def texted(text: str) -> bytes:
 
 
 def search() -> None:
-    """Tests search.sh. It searches for texts that some messages have, and for a text that no message has. One text is
-    in so many messages that their numbers don't fit into one list. Some archives have rejected messages."""
+    """Tests search.sh. The test searches for texts that some messages have, and for a text that no message has. One
+    text is in so many messages that search.sh needs more than one list for the numbers of these messages. Some archives
+    have rejected messages."""
     ada, grace, without = texted("Ada"), texted('Grace "Hopper"'), canonical(5)
     Path("archive").write_bytes(ada + without + grace + ada)
     see(shell("search.sh", "archive", "0", "Ada") == (ada + ada, "", 0), "messages with Ada")
@@ -193,8 +194,8 @@ def search() -> None:
 
 
 def differences() -> None:
-    """Tests differences.sh on pairs of archives: with equal values, with values that differ, with messages that only
-    one of the two has, and with rejected messages."""
+    """Tests differences.sh on pairs of archives. Some pairs have equal values, and some have values that differ. In
+    some pairs, one archive has messages that the other doesn't have. Some archives have rejected messages."""
     five, same = framed([2 << 32, 5, 0]), framed([1 << 32, 5])
     others = {n: framed([1 << 32, n]) for n in (6, 7, 8, 9)}
 

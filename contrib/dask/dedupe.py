@@ -1,4 +1,5 @@
-"""Removes duplicates from archives with the workers of a Dask cluster. Each worker runs `capn`.
+"""Removes duplicate messages from archives. The work is done by the workers of a Dask cluster, and each worker runs
+`capn`.
 
 The files are read as one archive, in the order in which they are given. Of the messages with the same value, the first
 is kept, as it is or in canonical form. The output equals the output of one process of `capn uniq --keep-going` for the
@@ -55,8 +56,8 @@ class Report:
 
 
 def capn(*words: str, **given: Any) -> bytes:
-    """Runs `capn`, and returns its output. The exit status of `capn` may say that rejected messages were skipped. Any
-    other failure raises an exception."""
+    """Runs `capn`, and returns its output. The exit status of `capn` may say that it skipped rejected messages. If
+    `capn` fails in any other way, raises an exception."""
     ran = subprocess.run([os.environ.get("CAPN", "capn"), *words], capture_output=True, check=False, **given)
     if ran.returncode and not (ran.stderr.count(b"\n") == 1 and PASSED_OVER in ran.stderr):
         raise RuntimeError(f"capn {' '.join(words)}: status {ran.returncode}: {ran.stderr.decode().strip()}")
@@ -79,8 +80,8 @@ def messages_of(listing: bytes) -> list[Message]:
 
 
 def cut(path: str, most: int) -> list[Part]:
-    """Returns the parts of a file. A part has complete messages with at most `most` bytes in all, or a single message
-    that is longer."""
+    """Returns the parts of a file. A part has complete messages, with at most `most` bytes in all. If a single message
+    is longer than that, it is a part of its own."""
     with open(path, "rb") as file:
         try:
             messages = messages_of(capn("list", "--keep-going", stdin=file))
@@ -96,20 +97,20 @@ def cut(path: str, most: int) -> list[Part]:
 
 
 def digests(part: Part) -> list[Message]:
-    """Returns the messages of a part. Each message is checked, and has the digest of its canonical bytes."""
+    """Checks the messages of a part, and returns them. Each returned message has the digest of its canonical bytes."""
     return messages_of(capn("list", "--digest", "--keep-going", input=part.read()))
 
 
 def frames(part: Part, kept: list[Message], is_canonical: bool) -> bytes:
-    """Returns the bytes of some messages of a part, with their segment tables. The messages are unchanged or in
-    canonical form."""
+    """Returns some messages of a part as bytes, with a segment table before each message. The messages are unchanged,
+    or in canonical form."""
     data = part.read()
     found = b"".join(data[message.begin:message.end] for message in kept)
     return capn("canonical", "--framed", input=found) if is_canonical else found
 
 
 class Choice:
-    """Of all messages with the same value, chooses the first. Takes one part after the other, and counts the
+    """Chooses the first of all messages with the same value. The object takes one part after the other, and counts the
     messages."""
 
     def __init__(self) -> None:
@@ -133,14 +134,14 @@ class Choice:
 
 
 def tasks(client: Client, *call: Any, **options: Any) -> list[Future]:
-    """Returns a Dask task for each argument of a call. With pure=False, each task has a new key. Otherwise Dask would
-    make the keys from the arguments, and two equal parts would get the same key."""
+    """Returns a Dask task for each argument of a call. With pure=False, each task gets a new key. Without it, Dask
+    would compute the key from the arguments, and the tasks for two equal parts would get the same key."""
     return client.map(*call, **options, pure=False)
 
 
 def dedupe(client: Client, paths: list[str], out: BinaryIO, most: int, is_canonical: bool) -> Report:
-    """Writes the messages of the given files without duplicates, in the order of the files. Of messages with the same
-    value, only the first is written."""
+    """Writes the messages of the given files without duplicates, in the order of the files. If several messages have
+    the same value, only the first of them is written."""
     parts = [part for found in tasks(client, cut, paths, most=most) for part in found.result()]
     choice = Choice()
     kept = [choice.of(part, found.result()) for part, found in zip(parts, tasks(client, digests, parts))]
@@ -160,8 +161,8 @@ def told(report: Report) -> str:
 
 
 def write(client: Client, paths: list[str], options: argparse.Namespace) -> Report:
-    """Writes the result into a temporary file in the same folder, and renames this file when it is complete. Until then
-    the old result stays."""
+    """Writes the result into a temporary file in the same folder, and renames this file when it is complete. Until
+    then, an old result stays as it is."""
     folder, name = os.path.split(os.path.abspath(options.out))
     with tempfile.NamedTemporaryFile(dir=folder, prefix=f".{name}.", delete=False) as out:
         try:

@@ -20,8 +20,8 @@ def framed(*segments: list[int]) -> bytes:
 
 
 def text_of(number: int) -> tuple[int, list[int]]:
-    """Returns a pointer to a text, and the words of the text. The pointer is right if the words come directly after
-    it."""
+    """Returns a pointer to a text, and the words of the text. The words have to be put directly after the pointer,
+    because the pointer refers to this place."""
     text = f"this is number {number}\0".encode()
     padded = text + bytes(-len(text) % 8)
     return 1 | 2 << 32 | len(text) << 35, list(struct.unpack(f"<{len(padded) // 8}Q", padded))

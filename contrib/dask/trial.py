@@ -17,12 +17,12 @@ from pathlib import Path
 from dedupe import Report, dedupe, told
 from distributed import Client, LocalCluster
 
-# The greatest number of bytes of a part, and the number of parts that are written before a worker is ended.
+# The greatest number of bytes that a part may have, and the number of parts after which the test ends a worker.
 MOST, BEFORE = 1 << 17, 5
 
 
 class Ending(io.BytesIO):
-    """A file for the output of dedupe.py. After some parts are written, the method `write` ends the worker that has the
+    """A file for the output of dedupe.py. Once some parts are written, the method `write` ends the worker that has the
     most results."""
 
     def __init__(self, client: Client) -> None:
