@@ -113,9 +113,9 @@ static void agrees(uint32_t form, const uint8_t *bytes, size_t size, const capn_
     }
 }
 
-/* Prints what a run of `capn show` has to give: the status, the output in hexadecimal, and the error. It gets them from
- * calls of the library. The output has the dumps of the messages of a stream, or the dump of one message that is packed
- * or has no segment table. */
+/* Finds out by calls of the library what a run of `capn show` has to give, and prints it: the status, the output in
+ * hexadecimal, and the error. The output has the dumps of the messages of a stream, or the dump of one message that is
+ * packed or has no segment table. */
 static void answer(char *line) {
     char *word[16], text[128];
     int count = 0;

@@ -2,9 +2,8 @@
 from tried import some
 
 # A value is None, or a tuple whose first item is its kind: ("struct", words, slots); ("list", code, count, bytes) for a
-# list of numbers; ("pointers", values); or ("rows", words, slots, [(words, slots)]) for a list of structs. Here slots
-# are pointers. All structs of a list have the same number of words and the same number of pointers. The tuple of the
-# list gives these two numbers.
+# list of numbers; ("pointers", values); or ("rows", word_count, slot_count, [(words, slots)]) for a list of structs. A
+# slot is a pointer. Each struct of a list of structs has `word_count` words and `slot_count` pointers.
 NUMBERS = some.sampled_from([0, 0, 1, 1 << 63]) | some.integers(0, (1 << 64) - 1)
 BITS = {0: 0, 1: 1, 2: 8, 3: 16, 4: 32, 5: 64}
 
