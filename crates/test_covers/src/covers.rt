@@ -1,8 +1,8 @@
 //! Tests of the times, the slots, the roles and the overlaps of words.
 
-use crate::wanted::{cut, follow, is_cover, none, overlap, word};
+use crate::wanted::{cut, follow, is_cover, overlap, word};
 use crate::words::bytes_of;
-use capn_cover::{Role, cover, cover_surveyed};
+use capn_cover::{Covered, Role, cover, cover_surveyed};
 use capn_stream::first;
 use capn_walk::{Fault, Limits, survey};
 use std::test::Fail;
@@ -29,7 +29,7 @@ fn words_of_one_object_each(rt: HostRuntime) -> Result<(), Fail> {
     let want = [
         word(1, 0, Role::Root),
         follow(word(1, 0, Role::Slot)),
-        none(),
+        Covered::unreached(),
         word(1, 1, Role::Numbers),
     ];
     assert!(rt; is_cover(rt.alloc(), &words, &want)?);
@@ -38,7 +38,7 @@ fn words_of_one_object_each(rt: HostRuntime) -> Result<(), Fail> {
         is_cover(
             rt.alloc(),
             &[0x2_0000_0000, 0, 7],
-            &[word(1, 0, Role::Root), none()]
+            &[word(1, 0, Role::Root), Covered::unreached()]
         )?
     );
     Ok(())

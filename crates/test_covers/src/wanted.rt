@@ -47,11 +47,6 @@ pub(crate) fn overlap(times: u32, slot: u32, role: Role) -> Covered {
     }
 }
 
-/// Returns the word that nothing covers.
-pub(crate) fn none() -> Covered {
-    word(0, 0, Role::Unreached)
-}
-
 /// Tests whether the message that `words` begin with, after its segment table, has the cover `want`.
 pub(crate) fn is_cover(alloc: Global, words: &[u64], want: &[Covered]) -> Result<bool, Fail> {
     let bytes = bytes_of(alloc, words)?;

@@ -13,6 +13,8 @@ mod explanations;
 #[cfg(test)]
 mod marked_texts;
 #[cfg(test)]
+mod message_texts;
+#[cfg(test)]
 mod mismatch_lines;
 #[cfg(test)]
 mod mismatches;
@@ -20,6 +22,8 @@ mod mismatches;
 mod paths;
 #[cfg(test)]
 mod searches;
+#[cfg(test)]
+mod stages_and_styles;
 #[cfg(test)]
 mod text_parts;
 #[cfg(test)]

@@ -18,6 +18,8 @@ mod long_lists;
 #[cfg(test)]
 mod random;
 #[cfg(test)]
+mod record_lines;
+#[cfg(test)]
 mod segments;
 #[cfg(test)]
 mod texts;

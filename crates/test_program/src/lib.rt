@@ -26,4 +26,6 @@ mod option_texts;
 #[cfg(test)]
 mod picks;
 #[cfg(test)]
+mod usages;
+#[cfg(test)]
 mod whole_inputs;

@@ -19,6 +19,8 @@ mod picks;
 #[cfg(test)]
 mod places;
 #[cfg(test)]
+mod printed_lines;
+#[cfg(test)]
 mod refused_explanations;
 #[cfg(test)]
 mod runs;

@@ -4,6 +4,8 @@
 #![tactic(auto)]
 
 #[cfg(test)]
+mod converters;
+#[cfg(test)]
 mod endless;
 #[cfg(test)]
 mod making;

@@ -9,11 +9,15 @@ mod allowed_steps;
 #[cfg(test)]
 mod comparisons;
 #[cfg(test)]
+mod counted_scratch;
+#[cfg(test)]
 mod layouts;
 #[cfg(test)]
 mod making;
 #[cfg(test)]
 mod message_tasks;
+#[cfg(test)]
+mod parts;
 #[cfg(test)]
 mod pointer_words;
 #[cfg(test)]
