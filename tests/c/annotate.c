@@ -1,11 +1,11 @@
-/* Tests capn_annotate on hand-written messages whose lines are known. Each message is tried at aligned and at unaligned
- * addresses, next to pages that can't be accessed. The array for the lines is tried with each length from 0 to more
- * than enough. A message without a segment table is tested again with a table, unpacked and packed. */
+/* Tests capn_annotate on hand-written messages whose lines are known. Each message lies next to a page that can't be
+ * accessed, at aligned and at unaligned addresses. The array for the lines has each length from 0 to more than enough.
+ * A message without a segment table is also tested with a segment table, and packed. */
 #define TEST "annotate"
 #include "wanted.h"
 
 enum { MOST = 8 };
-/* A line that capn_annotate has to return. The words of the line belong to one object. The pointer to this object is
+/* A line that capn_annotate has to return. The words of the line are part of an object. The pointer to this object is
  * word `slot` % 256 of segment `slot` / 256. */
 #define LINE(offset, segment, word, words, times, slot, cut, not_zero, kind, flags) \
     {offset, segment, word, words, times, (slot) >> 8, (slot) & 255, cut, not_zero, CAPN_LINE_##kind, flags}
@@ -102,7 +102,7 @@ static void each_form(size_t m, uint8_t **pages) {
     }
 }
 
-/* Makes calls that return an error. Each of them must leave the array of lines unchanged. */
+/* Makes calls that return an error. Such a call must leave the array of lines unchanged. */
 static void refused(void) {
     const uint8_t range[8] = {0, 0, 0, 0, 1}, null[8] = {0};
     const capn_limits none = limits_of(0, 1, 1, CAPN_STRICT), third = limits_of(1, 1, 1, 2);

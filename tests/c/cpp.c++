@@ -90,10 +90,9 @@ static void answers() {
     want("unpack", capn::bytes(capn::unpack(packed)).chars() == one);
     want("packed", capn::canonical(packed, capn::form::packed) == capn::canonical(one));
     want("canonical words", capn::is_canonical_words(capn::canonical(one)) && !capn::is_canonical_words(one.substr(8)));
-    /* The segment table of this message can be read as a pointer to a struct. The words of the struct are those of the
-     * segment, and the last of them isn't zero. So the bytes of the whole message are canonical if they are read
-     * without a segment table. The message itself isn't canonical, since the last data word of its root struct is zero.
-     * */
+    /* As a stream, this message isn't canonical, since the last data word of its root struct is zero. If all of its
+     * bytes are read as words without a segment table, they are canonical. The first word, which was the table, is then
+     * a pointer to a struct. */
     using capn::form;
     const capn::limits few(99, 2, 9);
     const std::string loose = framed(words({2ull << 32 | 1ull << 48, 5, 0, 1 | 0x22ull << 32, 0x636261}));
@@ -110,8 +109,8 @@ static void answers() {
     want("limits of words", capn::is_canonical_words(loose, {}) && thrown<capn::refusal>([&] {
                                 (void)capn::is_canonical_words(loose, few);
                             }) == "OverBudget at 0:0, paid 0, visits 1");
-    /* One overload of `is_canonical` has no argument for the form (stream, packed or bare). This overload is
-     * deprecated, but it still works. It takes the bytes as a single segment without a segment table. */
+    /* The following overload of `is_canonical` is deprecated. It has no argument for the form (stream, packed or bare).
+     * It takes the bytes as one segment without a segment table. */
 #if defined(__GNUC__)
 #pragma GCC diagnostic push
 #pragma GCC diagnostic ignored "-Wdeprecated-declarations"
@@ -128,19 +127,19 @@ static void answers() {
         const std::string message = written == form::bare ? capability.substr(8) : capability;
         want("a capability", thrown<capn::refusal>([&] { capn::is_canonical(message, written); }) == "capability 7");
     }
-    /* Three pointers refer to one object. So the canonical bytes have three copies of the object, and are longer than
+    /* Three pointers refer to one object. The canonical bytes have three copies of this object, so they are longer than
      * the message. */
     const std::string shared = framed(words({3ull << 48, 8 | 1ull << 32, 4 | 1ull << 32, 1ull << 32, 7}));
     want("a longer answer", capn::canonical(shared).size() == 56 && shared.size() == 48);
-    /* capn::canonical returns a std::vector. Its capacity isn't much larger than its length. */
+    /* capn::canonical returns a std::vector whose capacity must not be much larger than its length. */
     static_assert(std::is_same_v<decltype(capn::canonical(one)), std::vector<std::byte>>);
     const std::string null_root = std::string("\0\0\0\0\0\0\2\0", 8) + std::string(1 << 20, '\0');
     const std::vector<std::byte> small = capn::canonical(null_root);
     want("no more room than needed", small.size() == 8 && small.capacity() < 128);
     want("no more of a packed one", capn::canonical(capn::pack(one), form::packed).capacity() < 128);
     want("no more of a text", capn::show(null_root).capacity() < 128);
-    /* This message has 4 GiB, which is over the limit. The call has to reject the message, and must not allocate memory
-     * of this size. All pages of the message map the same page of zeros. */
+    /* This message has 4 GiB of zeros, which is over the limit. The call has to reject the message, and must not
+     * allocate 4 GiB. The zeros are mapped but never written, so they take no memory. */
     const std::size_t huge = std::size_t{1} << 32;
     void *const pages = mmap(nullptr, huge, PROT_READ, MAP_PRIVATE | MAP_ANONYMOUS | MAP_NORESERVE, -1, 0);
     want("pages", pages != MAP_FAILED);
@@ -202,8 +201,8 @@ static void pieces() {
     want("too long for bytes", capn::segments(long_one).bytes_in_all() > 8ull << 28);
 }
 
-/* Writes canonical bytes into a buffer. The caller also passes scratch memory. The messages have few segments or many
- * segments, or are packed. */
+/* Tests capn::canonical_into, which writes the canonical bytes into a buffer of the caller, and uses scratch memory of
+ * the caller. The messages have few segments or many segments, or are packed. */
 static void lent() {
     using capn::form;
     const std::string message = framed(words({1ull << 32, 5})), wanted(capn::bytes(capn::canonical(message)).chars());
@@ -229,8 +228,8 @@ static void lent() {
                        == CAPN_BAD_LIMITS);
 }
 
-/* Compares pairs of messages. The two messages of a pair have the same value in two layouts, or have different values,
- * or one of them is rejected. */
+/* Compares pairs of messages. Some pairs have the same value in two layouts. Others have different values, or one of
+ * the two messages is rejected. */
 static void comparisons() {
     using capn::form;
     const std::string tight = framed(words({1ull << 32, 5})), other = framed(words({1ull << 32, 6}));
@@ -259,7 +258,7 @@ static void comparisons() {
                        == "a limit is out of its range");
 }
 
-/* Tests the path to the error of a rejected message. For an accepted message, tests the first difference from the
+/* For a rejected message, tests the path to the error. For an accepted message, tests the first difference from the
  * canonical form. */
 static void ways() {
     using capn::form;
@@ -297,8 +296,7 @@ static void ways() {
     want("none of a refused one", thrown<capn::refusal>([] { capn::departure(cut); }) == "frame: Cut");
 }
 
-/* Returns a line of capn::annotate as text. The text names the kind of the line with the word that `capn annotate`
- * prints for this kind. */
+/* Returns a line of capn::annotate as text. The kind of the line is named as in the output of `capn annotate`. */
 static std::string told(const capn::line &line) {
     static const char *const kinds[] = {"pointer", "null", "pad", "tag", "data", "list", "slack", "unreached"};
     const auto of = [](capn::place at) { return std::to_string(at.segment) + ":" + std::to_string(at.word); };
@@ -344,8 +342,8 @@ static void lines() {
     const std::string padded = words({1 | 2ull << 32 | 17ull << 35, 1, 0, 9ull << 56});
     want("padding", told(capn::annotate(padded, form::bare))
                         == "0 0:0 1 1 pointer\n8 0:1 3 1 list of 0:0 not zero 2 padding\n");
-    /* capn::annotate first tries a small array of lines. This message has more lines than that array, since each word
-     * has a line of its own. */
+    /* capn::annotate first tries a small array of lines. This message needs more lines, since each of its words has a
+     * line of its own. */
     std::string wide = words({5000ull << 48});
     for (int i = 0; i < 5000; i++) wide += words({0xfffffffc});
     const auto many = capn::annotate(wide, form::bare);
@@ -416,7 +414,7 @@ static void streams() {
                           == "message 2 at 32: frame: Cut");
     want("the first of them", count == 1);
 
-    /* The reader gets its bytes from a function that returns at most `most` bytes at once. Every third call of the
+    /* The reader gets its bytes from a function that returns at most `most` bytes at once. On every third call, this
      * function throws an exception. */
     for (std::size_t most = 1; most < 40; most++) {
         const std::string all = one + framed(words({0})) + one;
@@ -450,13 +448,11 @@ static void streams() {
     want("the cut one", thrown<capn::refusal>([&] { reader.next(); }) == "message 2 at 32: frame: Cut");
 }
 
-/* A reader gets its bytes from a function of the caller. In this test, the function returns a wrong number of bytes.
- * The reader must not report the mistake as an error of the message, and must not read a byte that the function didn't
- * write. */
+/* A reader gets its bytes from a function of the caller. Here, this function returns a wrong number of bytes. The
+ * reader must not report that as an error of the message, and must not read a byte that the function didn't write. */
 static void readers() {
-    /* The reader calls a function for bytes. On the first call, the function writes the segment table. On the second
-     * call, the function returns a number that is too large. One such number is the -1 of a failed system call, because
-     * -1 is very large as an unsigned number. */
+    /* The reader gets its bytes from a function. On the second call, this function returns a number of bytes that is
+     * too large. The -1 of a failed system call is such a number, because it becomes a very large unsigned number. */
     const std::string all = one + one;
     for (const std::size_t wrong : {static_cast<std::size_t>(-1), std::size_t{25}, std::size_t{1} << 20}) {
         std::size_t at = 0, calls = 0;
@@ -472,8 +468,8 @@ static void readers() {
         const auto message = reader.next();
         want("nothing is lost", message && message->chars() == one && reader.next()->chars() == one && !reader.next());
     }
-    /* The pipe has 8 bytes. After these, read(2) fails and returns -1. The function that the reader calls returns this
-     * -1 as a number of bytes. */
+    /* The pipe has 8 bytes. After these, read(2) fails and returns -1. The function that the reader calls returns the
+     * -1 as if it were a number of bytes. */
     int ends[2];
     want("a pipe", pipe(ends) == 0 && fcntl(ends[0], F_SETFL, O_NONBLOCK) == 0 && write(ends[1], one.data(), 8) == 8);
     capn::reader forgetful([&](std::byte *to, std::size_t most) {
@@ -481,8 +477,8 @@ static void readers() {
     });
     want("an error that was forgotten", thrown<capn::read_error>([&] { (void)forgetful.next(); })
                                             != "nothing");
-    /* A function can report an error of read(2) in three ways: it throws an exception, or it returns an empty
-     * std::optional, or it returns the error in a capn::expected. */
+    /* The function that a reader calls for bytes can report an error in three ways: it throws an exception, or it
+     * returns an empty std::optional, or it returns the error in a capn::expected. */
     capn::reader careful([&](std::byte *to, std::size_t most) -> std::optional<std::size_t> {
         const ssize_t came = ::read(ends[0], to, most);
         return came < 0 ? std::nullopt : std::optional<std::size_t>(came);
@@ -499,8 +495,8 @@ static void readers() {
                             && why.error().name() == std::string("ReadFailed")
                             && why.error().meaning() == why.error().text());
 
-    /* Reads a stream in which other messages follow a rejected message. Compares the number and the offset of each
-     * message with the expected ones, and also the error of each rejected message. */
+    /* Reads a stream that goes on after a rejected message. Compares the number and the offset of each message, and the
+     * error of each rejected message, with the expected ones. */
     const std::string mixed = one + hostile + one + hostile + cut;
     const auto from = [&mixed](std::size_t most_at_once) {
         return [&mixed, most_at_once, at = std::size_t{0}](std::byte *to, std::size_t most) mutable {
@@ -573,7 +569,7 @@ static void readers() {
         want("a wrong table", thrown<capn::refusal>([&] { (void)ended.next(); })
                                   == "message 2 at 32: frame: TooManySegments(4294967296)");
 
-    /* A reader can be moved in the middle of a stream, and can't be copied. */
+    /* A reader can't be copied. It can be moved to another variable, even after it has read a part of a stream. */
     static_assert(!std::is_copy_constructible_v<decltype(ended)> && !std::is_copy_assignable_v<decltype(ended)>);
     capn::reader first(from(5));
     const auto message = first.next();
@@ -681,8 +677,8 @@ static void packed_streams() {
                                                == "message 1 at 0: frame: TooManyWords(4)");
 }
 
-/* Reads messages from a socket whose peer waits for a reply to each message. The reader must not wait for more bytes
- * once a message is complete. It must not take bytes that follow the last message. */
+/* Reads messages from a socket whose peer waits for a reply to each message. If a message is complete, the reader must
+ * not wait for more bytes. It must not take bytes that follow the last message. */
 static void sockets() {
     int ends[2];
     want("a socket", socketpair(AF_UNIX, SOCK_STREAM, 0, ends) == 0);
@@ -757,9 +753,9 @@ static void fields() {
     want("many slots", capn::index::of(whole).size() == 201);
 }
 
-/* If the data section or the pointer section is zero in every struct of a list, the canonical bytes leave this section
- * out. A reader may read the list as numbers or as pointers. From the canonical bytes, it gets the same zeros or nulls
- * as from the original message. */
+/* The canonical bytes of a list of structs leave out the data words, or the pointers, if they are zero in every struct.
+ * A caller may read such a list as numbers or as pointers. It must get the same zeros or nulls from the canonical bytes
+ * as from the original bytes. */
 static void canonical_lists() {
     const auto all = [](const capn::numbers<std::uint16_t> &numbers) {
         return std::vector<std::uint16_t>(numbers.begin(), numbers.end());
@@ -779,9 +775,8 @@ static void canonical_lists() {
         for (const capn::record one : list.pointers()) count += one.slot(0).is_null();
         want("nulls", count == 2);
     }
-    /* A list of structs without data words can be read as a list of the structs' pointers. If it is read as a list of
-     * numbers, all numbers are zero. A list of structs without pointers can be read as a list of numbers. If it is read
-     * as a list of pointers, all pointers are null. */
+    /* A list of structs can be read as a list of numbers or as a list of pointers. If the structs have no data words,
+     * all numbers are zero. If the structs have no pointers, all pointers are null. */
     const std::string pointed = framed(words({1ull << 48, 0x1700000001, 8 | 1ull << 48, 0, 3 | 9ull << 32}));
     const capn::index index = capn::index::of(pointed);
     const capn::rows rows = index.root().as_struct().slot(0).pointers();
@@ -792,14 +787,13 @@ static void canonical_lists() {
     want("the capability", last == 9);
     want("zeros beside pointers", all(index.root().as_struct().slot(0).list<std::uint16_t>())
                                       == std::vector<std::uint16_t>{0, 0});
-    /* A list of numbers can't be read as numbers of another width. */
+    /* A list of numbers can't be read as a list of numbers of another width. */
     const std::string bytes_of_it = framed(words({1ull << 48, 1 | 0x12ull << 32, 0x0201}));
     const capn::index other = capn::index::of(bytes_of_it);
     const capn::value data = other.root().as_struct().slot(0);
     want("bytes aren't 16 bits", !data.try_list<std::uint16_t>() && !data.try_pointers());
     want("no list", !other.root().try_list<std::uint8_t>() && !other.root().try_pointers());
-    /* This list was written as a list of bytes, and the test reads it as a list of structs. A field that is wider than
-     * a byte has its default value. */
+    /* A list of bytes is read as a list of structs. A field that is wider than a byte has its default value. */
     const std::string older = framed(words({1ull << 48, 1 | 0xaull << 32, 5}));
     const capn::index of_older = capn::index::of(older);
     std::uint16_t field = 0;
@@ -855,7 +849,7 @@ static void ranges() {
 #endif
 }
 
-/* After std::move of an object to a new object, the old object is empty. */
+/* An object is empty after std::move has moved its content to another object. */
 static void moves() {
     capn::index from = capn::index::of(one);
     const capn::index to = std::move(from);

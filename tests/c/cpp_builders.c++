@@ -1,6 +1,6 @@
 // Tests capn_kj.hpp on message builders of the reference implementation.
 //
-// For the segments of a builder, capn_kj.hpp has to return the canonical form that the reference implementation makes.
+// For a builder's segments, capn_kj.hpp has to return the canonical form that the reference implementation returns.
 //
 //     cpp_builders SEED COUNT   so many builders of two segments or more, and the others that come between them
 #include "capn_kj.hpp"
@@ -116,7 +116,7 @@ void try_null_segment() {
     }
 }
 
-/* Passes segments that no message builder makes. Tests the error that the call reports, and the text of this error. */
+/* Calls capn_kj.hpp with segments that no message builder makes. Tests the reported error, and its text. */
 void try_refused() {
     capnp::MallocMessageBuilder empty;
     try {

@@ -126,9 +126,8 @@ static void fields() {
     want("a capability", *root->slot(2).try_capability() == 7u && !root->slot(1).try_capability());
 }
 
-/* Two readers read a stream that has a rejected message. Each reader calls a function that returns the next bytes. The
- * function of the first reader returns a capn::expected. The second reader reads packed messages, and its function
- * returns a std::optional. */
+/* Two readers read a stream that has a rejected message. The first reader gets its bytes from a function that returns a
+ * capn::expected. The second reader gets packed bytes from a function that returns a std::optional. */
 static void streams() {
     const std::string all = one + hostile + tight + cut;
     std::size_t at = 0;

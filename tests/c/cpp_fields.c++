@@ -92,8 +92,8 @@ void show_message(capn::bytes message, bool is_new) {
     std::printf("\n");
 }
 
-// A hash of the numbers that are read from the object of a pointer. It is FNV-1a, but over numbers of 64 bits instead
-// of bytes.
+// A hash of the numbers that are read from one object. The hash is FNV-1a, but over numbers of 64 bits instead of
+// bytes.
 class sum {
 public:
     void add(std::uint64_t number) { sum_ = (sum_ ^ number) * 0x100000001b3; }

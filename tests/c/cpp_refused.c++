@@ -1,10 +1,11 @@
 // The programs in this file test that a wrong use of capn.hpp doesn't compile, and that right programs compile.
 //
-// Each value of the macro CASE adds one wrong program. This program would read bytes after the object that owns them is
-// destroyed, or it confuses two numbers, such as a number of words and a number of bytes. A compiler has to reject this
-// program. The line of a case begins with a word and a colon, and the compiler's error has to contain this word. Only
-// clang warns about the cases whose word is `dangling`. Without CASE, the file has only the right programs.
-// `tests/c/languages` compiles each case.
+// Without the macro CASE, this file has only right programs. Each value of CASE adds one wrong program, which a
+// compiler has to reject. The wrong program would read bytes after the object that owns them is destroyed, or it
+// confuses two numbers, such as a number of words and a number of bytes.
+//
+// The line of a case begins with a word and a colon. The compiler's error has to contain this word. Only clang warns
+// about the cases whose word is `dangling`. `tests/c/languages` compiles each case.
 #include "capn.hpp"
 #ifdef WITH_KJ
 #include "capn_kj.hpp"
@@ -18,7 +19,7 @@
 
 std::vector<std::byte> make_vector();
 std::string make_string();
-/* An object of this type has its bytes inside itself, so a copy of the object has bytes of its own. */
+/* A `packet` has its bytes inside itself, so a copy of a `packet` has bytes of its own. */
 struct packet {
     std::byte held[64];
     std::size_t length;

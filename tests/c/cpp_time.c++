@@ -1,8 +1,8 @@
-// For each call of capn.hpp, compares its time with that of the same call in C.
+// Compares the time of each call of capn.hpp with the time of the same call in C.
 //
-// Each function of capn.hpp calls functions of capn.h. cpp_time [MOST] fails if a call of a capn.hpp function takes
-// more than MOST times as long as the same calls of capn.h without capn.hpp. It compares the shortest times of many
-// rounds. Each round runs the call of capn.hpp and the calls of capn.h, one after the other.
+// Each function of capn.hpp calls functions of capn.h. `cpp_time [MOST]` fails if a function of capn.hpp takes more
+// than MOST times as long as those functions of capn.h. The program compares the shortest times of many rounds. In each
+// round, the call of capn.hpp and the calls of capn.h run one after the other.
 #include "capn.hpp"
 #include <chrono>
 #include <cstdio>
@@ -21,7 +21,7 @@ template <class Call> double once(unsigned times, Call call) {
     return took.count() / times;
 }
 template <class C, class Plus> void beside(const char *name, std::size_t size, C c, Plus plus) {
-    /* The rounds are short, so most of them run without an interruption. As long as capn.hpp is slower than the limit
+    /* The rounds are short, so that most of them run without an interruption. If capn.hpp seems slower than the limit
      * allows, the program runs more rounds. */
     const unsigned times = static_cast<unsigned>(1 + 200 / (1 + once(3, c) / 1000));
     double least = 1e18, least_plus = 1e18;
@@ -34,8 +34,8 @@ template <class C, class Plus> void beside(const char *name, std::size_t size, C
     failed |= least_plus > most * least;
 }
 
-/* Returns a message whose root is a list. If `bytes` isn't 0, it is a list of `bytes` bytes. Otherwise it is a list of
- * `rows` structs, and each struct has a data word and a pointer to a text of 8 bytes. */
+/* Returns a message whose root is a list. If `bytes` isn't 0, the root is a list of `bytes` bytes. Otherwise the root
+ * is a list of `rows` structs. Each struct has a data word and a pointer to a text of 8 bytes. */
 std::vector<std::uint64_t> message_of(std::size_t rows, std::size_t bytes) {
     std::vector<std::uint64_t> words = {0};
     if (bytes) {
@@ -65,8 +65,9 @@ void times(const std::vector<std::uint64_t> &words) {
     const capn::bytes bare(canonical);
     beside("check", size, [&] { return capn_check(CAPN_STREAM, data, size, &limits, &report) + report.paid; },
            [&] { return capn::check(message, capn::form::stream, limits).paid; });
-    /* A vector sets its bytes to zero before the call writes them. For a large message, this takes long. So that the
-     * times can be compared, the calls in C write into a vector, too. Only `canonical_into` clears nothing. */
+    /* A std::vector is filled with zeros before a call writes into it. For a large message, this takes long.
+     * capn::canonical returns a new vector, so the calls in C write into a new vector, too. `canonical_into` needs no
+     * new vector. */
     beside("canonical", size,
            [&] {
                capn_canonical(CAPN_STREAM, data, size, &limits, nullptr, 0, &report);

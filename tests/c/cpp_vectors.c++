@@ -32,8 +32,9 @@ capn::form form_of(const std::string &word) {
     return word == "packed" ? capn::form::packed : word == "bare" ? capn::form::bare : capn::form::stream;
 }
 
-/* Returns the text of an error as the expected answers have it. For an error of for_each, the place at the end is left
- * out. For an error of packing or unpacking, the text doesn't name the form (`bare` or `packed`). */
+/* Returns the text of an error in the format of the expected answers. For an error of for_each, the text doesn't say
+ * which message is rejected. For an error of packing or unpacking, the text doesn't name the form (`bare` or
+ * `packed`). */
 std::string refused(const capn::refusal &why, bool of_packing) {
     std::string text = capn::refusal(why.status(), why.report()).what();
     for (const std::string form : {"bare: ", "packed: "})
@@ -84,8 +85,8 @@ std::string checked(const capn::checked &it, const capn_figures &figures) {
     return "paid " + std::to_string(it.paid) + ", visits " + std::to_string(it.visits);
 }
 
-/* Returns the result of a call on the given bytes. If they are a stream with a valid segment table, the call is also
- * made on the stream's segments, and has to return the same result. */
+/* Returns the result of a call on the given bytes. If the bytes are a stream with a valid segment table, also makes the
+ * call on the segments of the stream. The two results have to be equal. */
 template <class Call> std::string both(capn::bytes message, capn::form form, const capn::limits &limits, Call call) {
     const std::string told = answered([&] { return call(message, form); });
     if (form != capn::form::stream) return told;

@@ -1,6 +1,6 @@
-/* Tests calls with null in place of the limits, the report or the output parameter `which`. Each call must return,
- * write and report the same as with the default limits and with no null pointer. Each line of standard input ends with
- * bytes in hexadecimal. The calls read these bytes in each form (stream, packed and bare). */
+/* Tests calls with null in place of the limits, the report or the output parameter `which`. Such a call must return and
+ * write the same as a call with the default limits and no null pointer. Each line of standard input ends with bytes in
+ * hexadecimal. The calls read these bytes in each form (stream, packed and bare). */
 #define TEST "defaults"
 #include "wanted.h"
 
@@ -47,7 +47,7 @@ CALL(refusal_way, INPUT, g->out.way, WAY, g->report)
 CALL(departure, INPUT, &g->out.departs.departed, g->out.departs.way, WAY, g->report)
 CALL(annotate, INPUT, g->out.lines, LINES, g->report)
 
-/* The first of these two functions compares a message with its own first half. The second one compares the message with
+/* `try_same` compares a message with the first half of its bytes. `try_same_as_itself` compares a message with
  * itself. */
 static capn_status try_same(struct given *g) {
     return capn_same(g->form, g->bytes, g->size, g->bytes, g->size / 2, g->limits, g->which, g->report);

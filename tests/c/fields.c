@@ -1,17 +1,19 @@
 /* Tests the calls of capn_fields.h. The arguments say what the program does:
- *   - `fields` tests index entries that are written by hand
- *   - `fields old` and `fields new` print the messages of a stream in the format of fields.c++; the schema of the
- *     messages is fields.capnp, and they are read as its older and as its newer type
+ *   - `fields` tests hand-written index entries
+ *   - `fields old` and `fields new` read the messages of a stream as the older or the newer type of fields.capnp, and
+ *     print them in the format of fields.c++
  *   - `fields any` reads each pointer in the messages of a stream as every kind of object, and counts how often this
  *     succeeds
  *   - `fields lines` reads the messages of generated.py as every kind of object, and prints a line for each pointer */
 
-/* The lines of `fields lines`. For a rejected message, the line is `rejected: ` and the text of the error. For an
- * accepted message, there is a line for each pointer, in preorder. The line begins with a word for the pointer's kind.
- * The object of the pointer is then read in eleven ways: as a struct; as a text; as data; as a list of elements without
- * size; as a list of numbers of 1, 8, 16, 32 and 64 bits; as a list of pointers; and as a list of structs. For each
- * way, the line has a part. The part is `-` if the object can't be read in this way. Otherwise the part is a hash in
- * hexadecimal: FNV-1a over 64-bit numbers. These are the numbers:
+/* The lines that `fields lines` prints. For a rejected message, the line is `rejected: ` and the text of the error. For
+ * an accepted message, there is a line for each pointer, in preorder. The line begins with a word for the pointer's
+ * kind. The object of the pointer is then read in eleven ways: as a struct; as a text; as data; as a list of elements
+ * without size; as a list of numbers of 1, 8, 16, 32 and 64 bits; as a list of pointers; and as a list of structs. For
+ * each way, the line has a hash in hexadecimal, or `-` if the object can't be read in this way. */
+
+/* `fields lines` prints a hash for each way to read an object. The hash is FNV-1a over 64-bit numbers. These are the
+ * numbers:
  *   - for a struct, the numbers of a struct (see the next comment)
  *   - for a text and for data, the length and the bytes; a null pointer has the default text `none`
  *   - for a list of elements without size, the length
@@ -163,8 +165,8 @@ static uint64_t read_record(const capn_record *record) {
 /* The results are stored here, so that the compiler can't leave out the code that reads. */
 static volatile uint64_t kept;
 
-/* Reads an index entry as a struct, as a text, as data, and as each kind of list. Returns in how many of these ways the
- * entry can be read. */
+/* Reads the object of an index entry as a struct, as a text, as data, and as each kind of list. Returns how many of
+ * these ways succeed. */
 static int read_any(const capn_entry *entry) {
     capn_record record;
     capn_items items;
@@ -403,8 +405,8 @@ static void two_of_zeros(const uint64_t *words, size_t count) {
     want("structs as bits", capn_list(data, capn_slot(&root, 0), CAPN_KIND_BITS, &items), 0);
 }
 
-/* If two messages have equal values, the test reads equal results from them. If a struct is too short for a number, the
- * test reads zero. If it is too short for a pointer, the test reads null. */
+/* Messages with equal values must give equal numbers and pointers. A number beyond the end of a struct is zero, and a
+ * pointer beyond the end is null. */
 static void by_another_schema(void) {
     static const uint64_t a_word[] = {1ull << 48, 0x1700000001, 0x100000008, 0, 0};
     static const uint64_t a_pointer[] = {1ull << 48, 0x1700000001, 0x1000000000008, 0, 0};
@@ -417,8 +419,7 @@ static void by_another_schema(void) {
     want("the same", capn_same(CAPN_STREAM, one, message(one, a_word, 5), other, size, NULL, NULL, NULL), CAPN_OK);
     want("the same", capn_same(CAPN_STREAM, one, message(one, a_pointer, 5), other, size, NULL, NULL, NULL), CAPN_OK);
 
-    /* A list of bytes is read as a list of structs. If a field is wider than a byte, reading it returns the field's
-     * default value. */
+    /* A list of bytes is read as a list of structs. A field that is wider than a byte has its default value. */
     static const uint64_t bytes_of_older[] = {1ull << 48, 1 | (2 | 1 << 3) * (1ull << 32), 5};
     capn_entry all[2];
     capn_record root, row;
@@ -438,8 +439,7 @@ static void by_hand(void) {
     want("what is stored for 7", (int64_t)of_words(1, 0), 7);
     want("no word", (int64_t)of_words(0, 0), 7);
 
-    /* Takes two words. Reads a field of each width at each bit of the words, and compares it with the bits that it
-     * consists of. */
+    /* Reads a field of each width at each bit of two words. Compares the field with these bits of the words. */
     uint8_t data[16];
     for (int i = 0; i < 16; i++) data[i] = (uint8_t)(37 * i + 11 * i * i + 201);
     capn_record record = {data, NULL, 128, 0};
@@ -490,7 +490,7 @@ static void by_hand(void) {
     entry.kind = CAPN_KIND_U16;
     want("other numbers", capn_text(abc, &entry, &text, &length), 0);
 
-    /* For each pair of kinds, reads a list of one kind as a list of the other kind. The lists have two elements. */
+    /* Reads a list of each kind as a list of every kind. The lists have two elements. */
     /* Character j of string i is `1` if a list of kind j can be read as a list of kind i. The kinds are in the order
      * void, bits, bytes, u16, u32, u64, pointers, rows (structs). */
     static const char *const taken[] = {

@@ -1,6 +1,6 @@
 // Writes and reads messages of fields.capnp with the reference implementation.
 //
-// The program uses generated code. It writes a stream of messages, or prints each message of a stream on a line.
+// The program uses generated code. It writes a stream of messages, or prints a line for each message of a stream.
 //
 //     fields write SEED COUNT   by both types in turn, in segments of several sizes
 //     fields old | new          read by one type, whichever wrote it
@@ -21,7 +21,7 @@ std::mt19937_64 source;
 uint64_t below(uint64_t most) { return source() % most; }
 bool is_set() { return below(4) != 0; }
 
-/* Returns a random number of this type: any bits, a small number, or 0. */
+/* Returns a random number of the type T: any bits, a small number, or 0. */
 template <typename T> T number() {
     if (below(4) == 0) return T(below(10));
     const uint64_t bits = below(6) ? source() : 0;

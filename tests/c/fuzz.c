@@ -1,7 +1,7 @@
 /* Passes arbitrary bytes to each call of capn.h, in each form (stream, packed and bare). The results of the calls must
- * agree with one another. The calls must not read beyond the given bytes. Each line of standard input ends with bytes
- * in hexadecimal. The program passes these bytes to each call. It also passes copies in which some bytes are changed.
- * The changes come from a fixed seed. */
+ * agree with one another, and no call may read beyond the given bytes. Each line of standard input ends with bytes in
+ * hexadecimal. The program passes these bytes to each call, and also copies in which some bytes are changed. The
+ * changes come from a fixed seed. */
 
 /* A fuzzer calls the function LLVMFuzzerTestOneInput of this file. This command builds the fuzzer:
  *
@@ -21,8 +21,8 @@ static void need(int holds, const char *what, const uint8_t *bytes, size_t size)
     abort();
 }
 
-/* Tests a message that capn_check accepts. capn_canonical, capn_hash and capn_is_canonical have to agree on the
- * message's canonical bytes and on its cost. */
+/* Tests a message that capn_check accepts. capn_canonical, capn_hash and capn_is_canonical have to agree on its
+ * canonical bytes and on its cost. */
 static void accepted(uint32_t form, const uint8_t *bytes, size_t size, const capn_report *checked, size_t enough) {
     uint8_t *out = malloc(enough), digest[2][32];
     capn_report report;
@@ -48,7 +48,7 @@ static void accepted(uint32_t form, const uint8_t *bytes, size_t size, const cap
     free(again);
 }
 
-/* Computes the size of an object's content from the object's index entry. Returns the size in bytes. */
+/* Returns the size of an object's content in bytes, computed from the object's index entry. */
 static uint64_t content(const capn_entry *e) {
     const uint64_t object = 8 * ((uint64_t)e->words + e->slots);
     switch (e->kind) {
@@ -63,9 +63,9 @@ static uint64_t content(const capn_entry *e) {
     }
 }
 
-/* Tests entry i of an index, and all entries below it. The content of an object must lie within the bytes of the
- * message. The entries for the object's pointers must follow one another, and the object's span must end with the last
- * of them. A null pointer must have a null entry. */
+/* Tests entry i of an index, and the entries of the pointers in its object. The content of the object must lie within
+ * the bytes of the message. The entries of the pointers must follow one another, up to the end of the span of entry i.
+ * A null pointer must have a null entry. */
 static void entry(const capn_entry *all, size_t count, size_t i, const uint8_t *bytes, size_t size) {
     const capn_entry *e = &all[i];
     need(e->span >= 1 && e->span <= count - i, "a span", bytes, size);
@@ -121,7 +121,7 @@ static void indexed(uint32_t form, const uint8_t *bytes, size_t size, capn_statu
     free(all);
 }
 
-/* Some calls report the path to an error. They must report the same error as capn_check. */
+/* The calls that report the path to an error must report the same error as capn_check. */
 static void led(uint32_t form, const uint8_t *bytes, size_t size, capn_status check, const capn_report *checked) {
     static uint32_t way[2 * 256];
     capn_departed departed;
@@ -137,8 +137,8 @@ static void led(uint32_t form, const uint8_t *bytes, size_t size, capn_status ch
     need(!memcmp(&report, checked, sizeof report), "its report", bytes, size);
 }
 
-/* capn_annotate must report the same as capn_check. The lines must have each word of the message exactly once, in
- * order. Each line must have the right count of words that aren't zero. */
+/* capn_annotate must report the same as capn_check. Each word of the message must be in exactly one line, and the lines
+ * must be in order. Each line must have the right count of words that aren't zero. */
 static void lined(uint32_t form, const uint8_t *bytes, size_t size, capn_status check, const capn_report *checked) {
     capn_report report;
     const capn_status status = capn_annotate(form, bytes, size, &limits, NULL, 0, &report);
@@ -211,7 +211,7 @@ static void message(uint32_t form, const uint8_t *bytes, size_t size) {
     need(!memcmp(&report, &hashed, sizeof report), "the reports of a refusal", bytes, size);
 }
 
-/* Takes arbitrary bytes as packed bytes, and unpacks them. Packs the result, and unpacks it again. */
+/* Unpacks arbitrary bytes as if they were packed. Packs the result, and unpacks it again. */
 static void packing(const uint8_t *bytes, size_t size) {
     static uint8_t words[1 << 16], again[1 << 16], text[10 * (1 << 13)];
     capn_report report, other;

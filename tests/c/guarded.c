@@ -1,8 +1,9 @@
-/* Makes many calls of all functions of capn.h, with valid and hostile inputs and with buffers of each size. The memory
- * that is passed to a call lies before or after a page that can't be accessed. The input is read-only. The seed is
- * fixed, so each run makes the same calls. The argument is the number of calls. Each line of standard input ends with
- * bytes in hexadecimal. These bytes are also inputs of the calls. The program prints a line with a hash of everything
- * that the calls returned and wrote. The hash has to be the same for two builds of the library. */
+/* Makes random calls of each function of capn.h, with valid and hostile inputs, and with buffers of many sizes. The
+ * memory of a call lies before or after a page that can't be accessed. The input is read-only. */
+
+/* The argument is the number of calls. Each line of standard input ends with bytes in hexadecimal. These bytes are some
+ * of the inputs. The seed is fixed, so each run makes the same calls. The program prints a hash of everything that the
+ * calls returned and wrote. Two builds of the library must give the same hash. */
 #define TEST "guarded"
 #include "wanted.h"
 #include <signal.h>
@@ -38,8 +39,8 @@ static uint64_t draw(void) {
 }
 static uint32_t any(uint32_t below) { return (uint32_t)(draw() >> 32) % below; }
 
-/* Returns the first or the last `size` bytes of a block of pages. The page before the block and the page after it can't
- * be accessed. For a size of 0, sometimes returns null. */
+/* Returns the first or the last `size` bytes of a block of pages. The pages around the block can't be accessed. For a
+ * size of 0, sometimes returns null. */
 static uint8_t *part(uint8_t *start, size_t size) {
     if (!size && !any(3)) return NULL;
     return any(3) ? at_end(start, size) : start;
@@ -224,7 +225,7 @@ static size_t room_for(size_t enough) {
 /* The status of the current call. */
 static capn_status status;
 
-/* Makes one call on the input. Returns the buffer size that the call reported as enough. */
+/* Makes one call on the input. Returns the buffer size that is enough, as the call reports it. */
 static size_t call(uint32_t which, const uint8_t *bytes, size_t size, size_t enough) {
     written_count = 0;
     capn_report *r = (capn_report *)filled(of_report, sizeof *r);
@@ -324,7 +325,7 @@ static size_t call(uint32_t which, const uint8_t *bytes, size_t size, size_t eno
     case 12: {
         doing = "capn_canonical_with_scratch";
         const size_t lent = any(3) ? any(ROOM / 8) : any(3);
-        uint8_t *scratch = part(of_other, 8 * lent); /* the call may leave any bytes in this memory */
+        uint8_t *scratch = part(of_other, 8 * lent); /* the call may leave any bytes in its scratch memory */
         out = filled(of_out, room);
         status = capn_canonical_with_scratch(form, bytes, size, limits, scratch, lent, out, room, r);
         need(status != CAPN_MEMORY, "no memory is asked for");

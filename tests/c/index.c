@@ -1,7 +1,7 @@
-/* Tests the index of a hand-written message that has each kind of object. The message has no segment table, or it has a
- * table and one or three segments. It is tried at aligned and at unaligned addresses, next to pages that can't be
- * accessed. The array for the entries is tried with each length from 0 to more than enough. (tests/c/fuzz.c reads the
- * indexes of many messages.) */
+/* Tests the index of a hand-written message that has each kind of object. The message has no segment table, or a table
+ * of one or three segments. It lies next to a page that can't be accessed, at aligned and at unaligned addresses. The
+ * array for the entries has each length from 0 to more than enough. (tests/c/fuzz.c reads the indexes of many
+ * messages.) */
 #define TEST "index"
 #include "wanted.h"
 
@@ -18,7 +18,7 @@ static uint64_t object(uint64_t from, uint64_t to, uint64_t words, uint64_t slot
 
 /* Writes a message, and the entries of its index. The root is a struct of one word and eleven pointers, one for each
  * kind of object. The list of pointers has two elements. The list of structs has two elements, each with a word and a
- * pointer. An empty struct has no words. The pointer to the empty struct refers to itself. */
+ * pointer. The pointer to an empty struct refers to itself. */
 static void make(uint64_t *w, capn_entry *e) {
     const uint64_t words[WORDS] = {
         object(0, 1, 1, 11), 7, 0, list(3, 13, 0, 9), list(4, 13, 1, 9), list(5, 14, 2, 3), list(6, 15, 3, 3),

@@ -1,6 +1,5 @@
-/* Tests each call of capn.h with enough memory and with bad input. The bad inputs are empty bytes, numbers out of
- * range, segment tables that announce more bytes than there are, and hostile messages. Buffers of each size are tried,
- * too. */
+/* Tests each call of capn.h with enough memory. The inputs are valid messages, no bytes, numbers out of range, segment
+ * tables that announce too many bytes, and hostile messages. Buffers of each size are tried, too. */
 #define TEST "inputs"
 #include "wanted.h"
 
@@ -15,7 +14,7 @@ static const uint8_t message[32] = {0, 0, 0, 0, 3, 0, 0, 0, 0, 0, 0, 0, 2, 0, 0,
  * that it writes. */
 static void answered(void) {
     const uint8_t canonical[16] = {0, 0, 0, 0, 1, 0, 0, 0, 5}, packed[8] = {0x10, 3, 0x10, 2, 1, 5};
-    /* The first bytes of the expected digest: the SHA-256 of the canonical bytes. */
+    /* The first bytes of the expected digest. The digest is the SHA-256 of the canonical bytes. */
     const uint8_t sum[4] = {0x6a, 0x3e, 0xfd, 0x90};
     const capn_limits plain = limits_of(8388608, 8388608, 64, CAPN_PLAIN);
     capn_report r;
@@ -58,8 +57,8 @@ static void answered(void) {
     want("its length", r.length, 32);
 }
 
-/* Makes each call of capn.h with a message and buffers that begin 0 to 7 bytes after an aligned address. The message
- * and each buffer end where their allocated blocks end, so that a sanitizer detects an access past the end. */
+/* Makes each call of capn.h with a message and buffers at addresses that are 0 to 7 bytes after an aligned address. The
+ * message and each buffer end where their allocated blocks end, so that a sanitizer detects an access past the end. */
 static void anywhere(void) {
     const uint8_t packed[8] = {0x10, 3, 0x10, 2, 1, 5};
     for (size_t off = 0; off < 8; off++)
@@ -98,9 +97,8 @@ static void anywhere(void) {
         }
 }
 
-/* A message may have 1 to 4,096 segments. The test makes a message for each of these numbers, in the forms `stream` and
- * `packed`. The calls have to accept all these messages. The first segment has a null root, and the others have no
- * words. */
+/* Makes a message of each allowed number of segments, 1 to 4,096, as a stream and packed. The calls have to accept each
+ * message. Its first segment has a null root, and its other segments have no words. */
 static void segments(void) {
     static uint8_t frame[4 * 4097 + 4 + 8], text[2 * sizeof frame], digest[32];
     capn_report r;
@@ -133,7 +131,7 @@ static void nothing(void) {
     blank("its report", &r);
 }
 
-/* The limits that are numbers. Each has its offset in capn_limits and its range. */
+/* The limits that are numbers, with their offsets in capn_limits and their ranges. */
 static const struct {
     size_t at;
     uint32_t least, most;
@@ -146,7 +144,7 @@ static const struct {
 };
 enum { NUMBERS = sizeof numbers / sizeof *numbers };
 
-/* Returns the given limits with one change: the field at the offset `at` has the value `number`. */
+/* Returns the given limits, with the value `number` in the field at the offset `at`. */
 static capn_limits with(capn_limits limits, size_t at, uint32_t number) {
     memcpy((uint8_t *)&limits + at, &number, sizeof number);
     return limits;
@@ -162,8 +160,7 @@ static void ranges(void) {
         least = with(least, numbers[i].at, numbers[i].least);
         greatest = with(greatest, numbers[i].at, numbers[i].most);
     }
-    /* The last entry has two errors. It has the bad limit of the entry before it, and also a bad counting rule
-     * (tariff). */
+    /* The last entry has two errors: the bad limit of the entry before it, and a bad counting rule (tariff). */
     bad[count] = bad[count - 1];
     bad[count++].tariff = 9;
     const uint32_t forms[] = {0, 1, 2, 3, 4, UINT32_MAX}, tariffs[] = {2, 3, UINT32_MAX};
@@ -225,8 +222,8 @@ static void announced(void) {
     want("announced", r.at, 1ull << 32);
     want("4,096 segments", capn_check(CAPN_STREAM, most, 8, &greatest, &r), CAPN_FRAME_CUT);
     want("4,097 segments", capn_check(CAPN_STREAM, above, 8, &greatest, &r), CAPN_TOO_MANY_SEGMENTS);
-    /* In these packed bytes, a pair of bytes stands for a run of 256 zero words. The limit of the call is 256 words, so
-     * the second run exceeds it. */
+    /* In these packed bytes, each pair of bytes stands for 256 zero words. The limit of the call is 256 words, so the
+     * second pair is too much. */
     static uint8_t zeros[2 * 4096];
     for (size_t i = 0; i < sizeof zeros; i += 2) zeros[i + 1] = 255;
     want("a packed run above its maximum", capn_unpack(zeros, sizeof zeros, 256, NULL, 0, &r), CAPN_PACKED_TOO_LONG);
@@ -252,7 +249,7 @@ static void too_long(void) {
 
 static void hostile(void) {
     /* The first message is a struct whose only pointer refers to the struct itself. The second message is a list of two
-     * pointers, and both pointers refer to the list itself. A traversal of these messages ends only at a limit. */
+     * pointers, and both pointers refer to the list. Only a limit ends a traversal of such a message. */
     const uint8_t self[8] = {0xfc, 0xff, 0xff, 0xff, 0, 0, 1, 0};
     const uint8_t twice[24] = {1,    0,    0,  0, 0x16, 0,    0,    0,    0xfd, 0xff, 0xff, 0xff,
                                0x16, 0, 0, 0, 0xf9, 0xff, 0xff, 0xff, 0x16, 0,    0,    0};

@@ -1,7 +1,6 @@
 /* Tests each call of capn.h when one of its allocations fails: the first, the second, and so on. The call has to return
- * CAPN_MEMORY, leave the buffer unchanged, set the report to 0, and free everything. Some calls need no allocation. The
- * test also makes these calls while every allocation fails. They have to return the same as when allocations succeed.
- * */
+ * CAPN_MEMORY, leave the buffer unchanged, set the report to 0, and free everything. A call that needs no allocation
+ * has to return its usual result even if every allocation fails. */
 #include "refusing.h"
 #include "usual.h"
 #include <stdio.h>
@@ -134,9 +133,8 @@ static void each(const char *name, call *make, const input *in, int least) {
     printf("memory: %s: refused %d times\n", name, count);
 }
 
-/* Makes a call twice. In the first run allocations succeed, and the call has to allocate `growths` times and return
- * `wanted`. In the second run every allocation fails, and the call has to return CAPN_MEMORY if `growths` isn't 0. If
- * `growths` is 0, the call has to return `wanted` again. */
+/* Makes a call twice. In the first run, the call has to allocate `growths` times and return `wanted`. In the second
+ * run, every allocation fails. The call then has to return CAPN_MEMORY, or `wanted` if `growths` is 0. */
 static void wants(const char *name, call *make, const input *in, long growths, uint32_t wanted) {
     capn_report ample, short_of;
     left = -1;
@@ -187,9 +185,8 @@ static void in_turn(void) {
     each("annotate, packed", lined, &pack, 2);
 }
 
-/* Tests how much memory the calls need for messages of any depth. For a message without a segment table, or with at
- * most 64 segments, they need no memory. A message of 65 segments needs one allocation, which stores where each segment
- * ends. */
+/* Tests how many allocations the calls make for messages of any depth. A message without a segment table, or with at
+ * most 64 segments, needs none. For a message of 65 segments, a call needs memory to store where each segment ends. */
 static void at_depth(uint32_t most, size_t depth, uint32_t wanted) {
     const capn_limits limits = limits_of(1u << 20, 1u << 20, most, CAPN_STRICT);
     const uint32_t room = wanted == CAPN_OK ? CAPN_NO_ROOM : wanted;
@@ -232,9 +229,9 @@ static void at_depth(uint32_t most, size_t depth, uint32_t wanted) {
     wants("index, 65 segments", indexed, &more, wanted == CAPN_OK ? 2 : 1, wanted);
 }
 
-/* Tests calls that return before they store anything. These calls need no memory. They get an empty input, or a length
- * that isn't a multiple of 8. They also get packed bytes whose first group is truncated or too long. Other inputs are a
- * truncated segment table, and one that announces too much. */
+/* Tests calls that return before they store anything, so that they need no memory. The inputs are: no bytes; a length
+ * that isn't a multiple of 8; packed bytes whose first group is truncated or too long; and a segment table that is
+ * truncated or announces too much. */
 static void unread(void) {
     const uint8_t cut[9] = {255}, head[8] = {1, 0, 0, 0, 1}, count[8] = {255, 255}, whole[16] = {1}, sizes[264] = {64};
     const input nothing = {CAPN_STREAM, NULL, 0, usual}, odd = {CAPN_BARE, cut, 9, usual};

@@ -1,6 +1,6 @@
-/* Makes calls while every allocation fails. The inputs are those messages of the test vectors that have no segment
- * table, or at most 64 segments. No call may allocate. Each call has to return the same as when allocations succeed.
- * Each call is tried with an empty buffer, with a buffer of 1 byte or 1 entry, and with a large buffer. */
+/* Makes the calls that need no memory, while every allocation fails. The inputs are the messages of the test vectors
+ * that have no segment table, or at most 64 segments. No call may allocate. Each call has to return the same as when
+ * allocations succeed. The buffer is empty, has 1 byte or 1 entry, or is large. */
 #include "capn.h"
 #include "refusing.h"
 #include <stdio.h>

@@ -1,6 +1,6 @@
-/* Tests the version, the texts of the statuses, capn_first and capn_unpack_some. These two calls take their input in
- * chunks. They get each prefix of a message or of packed bytes, with each size of buffer. The memory lies at aligned
- * and at unaligned addresses, next to a page that can't be accessed. */
+/* Tests capn_first and capn_unpack_some, which take their input in chunks. They get each prefix of a message or of
+ * packed bytes, with each size of buffer. The memory lies at aligned and at unaligned addresses, next to a page that
+ * can't be accessed. The version and the texts of the statuses are tested, too. */
 #define TEST "pieces"
 #include "wanted.h"
 
@@ -50,10 +50,9 @@ static void is_first(const char *what, const uint8_t *bytes, size_t size, capn_s
     want("no more", r.at | r.paid | r.visits | r.segment | r.word, 0);
 }
 
-/* Takes messages of one to five segments, and passes each prefix of a message to capn_first. The prefix lies at aligned
- * and at unaligned addresses. For the shortest prefixes, the call reports that it needs 8 bytes. For longer prefixes,
- * it reports the length of the segment table, and then the length of the message. If the message is complete, with or
- * without bytes after it, the call reports the message's length. */
+/* Passes each prefix of a message to capn_first, at aligned and at unaligned addresses. The messages have one to five
+ * segments. The call reports how many bytes it needs: 8 for the shortest prefixes, the length of the segment table for
+ * longer ones, and then the length of the message. Bytes after a message change nothing. */
 static void beginnings(void) {
     static const uint32_t sizes[5] = {2, 0, 3, 1, 4};
     uint8_t bytes[160];
@@ -91,8 +90,8 @@ static void refused(void) {
     want("no report", r.length | r.at, 0);
 }
 
-/* Words of all kinds, and their packed bytes. There are zero words, words with one byte that isn't zero, and words with
- * eight such bytes. */
+/* Zero words, words with one byte that isn't zero, words with eight such bytes, and the packed bytes of all these
+ * words. */
 enum { WORDS = 40 };
 static uint8_t words[8 * WORDS], text[10 * WORDS];
 static size_t text_size;
@@ -108,8 +107,8 @@ static void make_words(void) {
 }
 
 /* Passes each prefix of the packed bytes to capn_unpack_some, with each size of buffer. The call has to write a prefix
- * of the words. The packed bytes that the call took have to unpack to the written bytes. No other byte of the buffer
- * may change. */
+ * of the words, and nothing else. If the packed bytes that it took are unpacked alone, they have to give the written
+ * bytes. */
 static void some(void) {
     for (size_t size = 0; size <= text_size; size++)
         for (size_t room = 0; room <= sizeof words + 9; room += room < 64 ? 1 : 7) {

@@ -19,8 +19,8 @@ def digits(data):
 
 
 def priced(words, data):
-    """Returns what `capn check` prints: the cost of a message, the number of pointers followed, and whether a single
-    segment without a table (`bare`) is canonical."""
+    """Returns what `capn check` prints: the cost of a message, and the number of followed pointers. For bytes without a
+    segment table (`bare`), also returns whether they are canonical."""
     status, wrote, refusal = run(["check", *words], data)
     if status:
         return None, None, refusal

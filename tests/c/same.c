@@ -1,8 +1,10 @@
-/* Tests capn_same, which compares two messages. Some messages are written by hand. Others come from standard input,
- * where each line ends with bytes in hexadecimal. The bytes are read in each form (stream, packed and bare) and with
- * some limits. Each of the unpacked messages is compared with all others. The status, the report and `which` must
- * follow from the results of capn_canonical for the two messages. capn_same has to make as many allocations as
- * capn_check makes for the messages that capn_same reads. The test also makes each of these allocations fail. */
+/* Tests capn_same, which compares two messages. The status, the report and `which` must follow from the results of
+ * capn_canonical. capn_same has to make as many allocations as capn_check for the same messages. Each of these
+ * allocations also fails once. */
+
+/* Some messages are written by hand. The others are the hexadecimal bytes at the ends of the lines of standard input.
+ * These bytes are read in each form (stream, packed and bare) and with some limits. Each unpacked message is compared
+ * with all others. */
 #define TEST "same"
 #include "refusing.h"
 #include "wanted.h"
@@ -13,7 +15,7 @@ static unsigned long long equal, unequal, refused[2];
 struct input {
     const uint8_t *bytes;
     size_t size;
-    /* The results of capn_canonical for this input, and the number of allocations that capn_check makes. */
+    /* For this input: the results of capn_canonical, and the number of allocations that capn_check makes. */
     capn_status status;
     capn_report report;
     uint8_t *canonical;
@@ -172,8 +174,8 @@ static void segments(void) {
     want("which of neither", which, 0);
 }
 
-/* Tests two rules. If the first message is rejected, capn_same doesn't read the second message. A caller may pass the
- * same bytes in memory as both messages. */
+/* Tests that capn_same doesn't read the second message if the first message is rejected. Also tests that a caller may
+ * pass the same bytes in memory as both messages. */
 static void order(void) {
     static const uint8_t null[16] = {0, 0, 0, 0, 1};
     uint8_t holds[16];
@@ -224,7 +226,7 @@ static void store(const char *line, uint8_t *pages) {
     inputs[count++] = (struct input){kept, size, 0, {0, 0, 0, 0, 0, 0}, NULL, 0};
 }
 
-/* Copies the bytes of an input to the end of the block `pages`. Returns the input with these bytes. */
+/* Copies the bytes of an input to the end of the block `pages`. The returned input has the address of this copy. */
 static struct input moved(const struct input *in, uint8_t *pages) {
     struct input out = *in;
     uint8_t *to = at_end(pages, in->size);

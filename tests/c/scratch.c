@@ -1,8 +1,9 @@
-/* Tests capn_canonical_with_scratch, which gets scratch memory from the caller. Some messages are written by hand.
- * Others come from standard input, where each line ends with bytes in hexadecimal. The bytes are read in each form
- * (stream, packed and bare) and with some limits. If there is enough scratch memory, the call has to return and report
- * what capn_canonical does. If there is one word less than the call needs, the call has to report again how much it
- * needs. The call must never allocate. */
+/* Tests capn_canonical_with_scratch, which gets scratch memory from the caller and must never allocate. With enough
+ * scratch memory, it has to return and report the same as capn_canonical. With one word less, it has to report how much
+ * scratch memory it needs. */
+
+/* Some messages are written by hand. The others are the hexadecimal bytes at the ends of the lines of standard input.
+ * These bytes are read in each form (stream, packed and bare) and with some limits. */
 #define TEST "scratch"
 #include "refusing.h"
 #include "wanted.h"
@@ -74,7 +75,7 @@ static void rooms(struct given *g, const uint8_t *canonical, const capn_report *
 }
 
 /* Passes as much scratch memory as the call asks for, until the call has enough. The call may ask for more at most
- * twice. If the call gets one word less than it asked for, it has to ask for the same number of words again. */
+ * twice. If it gets one word less than it asked for, it has to ask for the same number of words again. */
 static void scratches(struct given *g, uint64_t most) {
     capn_report report;
     for (int times = 0; call(g, &report) == CAPN_NO_SCRATCH; times++) {

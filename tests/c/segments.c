@@ -1,10 +1,10 @@
-/* Tests the calls that take the segments of a message. The names of these calls end in `_segments`. Without this
- * ending, the name is that of a call for a stream. If both calls get the same segments, they must return the same. Each
- * line of standard input ends with the bytes of a stream, in hexadecimal. The test uses these streams, and copies in
- * which some bytes are changed. The changes come from a fixed seed. Each segment is copied alone to an odd address. The
- * last segment ends at the end of a page, before a page that can't be accessed. Then the test makes the calls on
- * segments that no stream can have. At the end, the test makes the calls that need no memory, while every allocation
- * fails.  */
+/* Tests the calls that take the segments of a message, such as capn_check_segments. Each must return the same as the
+ * call that takes a stream, such as capn_check. Other tests use segments that no stream can have, or make calls while
+ * every allocation fails. */
+
+/* Each line of standard input ends with the bytes of a stream, in hexadecimal. The test uses these streams, and copies
+ * in which some bytes are changed. The changes come from a fixed seed. Each segment is copied to memory of its own, at
+ * an aligned or an unaligned address. The last segment ends before a page that can't be accessed. */
 #define TEST "segments"
 #include "refusing.h"
 #include "wanted.h"
@@ -13,7 +13,7 @@ enum { MOST = 4096, ROUNDS = 40 };
 static uint8_t *guarded;
 static unsigned long long held_messages, accepted_messages, several;
 
-/* The call for segments and the call for the stream must return the same status, and write the same report and the same
+/* A `_segments` call must return the same status as the same call for a stream, and write the same report and the same
  * bytes. */
 static void same(const char *what, capn_status status, capn_status wanted, const capn_report *report,
                  const capn_report *told, const void *left, const void *right, size_t size) {
@@ -22,7 +22,7 @@ static void same(const char *what, capn_status status, capn_status wanted, const
     want("its answer", size && memcmp(left, right, size) != 0, 0);
 }
 
-/* Compares every call for segments with the call for the stream. */
+/* Compares each `_segments` call with the same call for a stream. */
 static void compare(const capn_segment *segments, size_t count, const uint8_t *frame, size_t size,
                     const capn_limits *limits) {
     capn_report report, told;
@@ -68,7 +68,7 @@ static uint32_t number(const uint8_t *at) {
     return at[0] | (uint32_t)at[1] << 8 | (uint32_t)at[2] << 16 | (uint32_t)at[3] << 24;
 }
 
-/* If the bytes are exactly one message, copies each segment of the message to a place of its own. Then compares the
+/* If the bytes are exactly one message, copies each segment of the message to memory of its own. Then compares the
  * calls on the segments with the calls on the bytes. */
 static void held(const uint8_t *frame, size_t size, const capn_limits *limits) {
     if (size < 8 || number(frame) >= MOST) return;
@@ -100,8 +100,8 @@ static void held(const uint8_t *frame, size_t size, const capn_limits *limits) {
     for (size_t i = 0; i < made; i++) free(blocks[i]);
 }
 
-/* Makes the calls on segments that no stream can have. Also makes the calls on MOST + 1 segments, which would make a
- * long stream. */
+/* Makes the `_segments` calls on no segments, on as many segments as a message may have, on one more, on segments that
+ * share their words, and on segments with too many words. */
 static void borders(void) {
     static const uint8_t words[8 * 1024];
     static capn_segment segments[MOST + 1];
@@ -151,8 +151,8 @@ static void borders(void) {
     want("no tariff", capn_canonical_segments(segments, 1, &other, out, 32, &report), CAPN_BAD_TARIFF);
 }
 
-/* Makes the calls for segments while every allocation fails. A pointer in one segment of the message leads to a struct
- * in the next segment. Only the call for a digest allocates, so only that call fails. */
+/* Makes the `_segments` calls while every allocation fails. A pointer in the first segment leads to a struct in the
+ * second segment. Only capn_hash_segments allocates, so only this call fails. */
 static void without_memory(void) {
     uint8_t far[8] = {2, 0, 0, 0, 1}, object[16] = {0, 0, 0, 0, 1, 0, 0, 0, 5}, out[32];
     const capn_segment segments[] = {{far, 1}, {object, 2}};

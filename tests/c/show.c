@@ -1,7 +1,8 @@
-/* Tests capn_show. With the argument `answers`, each line of standard input is a test case with a run of `capn show`.
- * The program prints the library's output for the bytes of the run, in the format of the expected outputs. With the
- * argument `agrees`, it compares capn_show with capn_check on the bytes at the end of each line, in each form (stream,
- * packed and bare) and style. It also makes each allocation of capn_show fail once. */
+/* Tests capn_show. Each line of standard input ends with bytes in hexadecimal. The argument says what the program does:
+ *   - `answers` reads test cases that run `capn show`, and prints the output of capn_show for their bytes in the format
+ *     of the expected outputs
+ *   - `agrees` compares capn_show with capn_check on the bytes, in each form (stream, packed and bare) and style, and
+ *     makes each allocation of capn_show fail once */
 #define TEST "show"
 #include "refusing.h"
 #include "wanted.h"
@@ -113,9 +114,8 @@ static void agrees(uint32_t form, const uint8_t *bytes, size_t size, const capn_
     }
 }
 
-/* Finds out by calls of the library what a run of `capn show` has to give, and prints it: the status, the output in
- * hexadecimal, and the error. The output has the dumps of the messages of a stream, or the dump of one message that is
- * packed or has no segment table. */
+/* Computes what a run of `capn show` has to print. Prints the status, the output in hexadecimal, and the error. The
+ * output has the dump of each message of a stream, or of one message that is packed or has no segment table. */
 static void answer(char *line) {
     char *word[16], text[128];
     int count = 0;
@@ -135,7 +135,7 @@ static void answer(char *line) {
     size_t texts_length = 0;
     capn_status status = CAPN_OK;
     capn_report report;
-    /* capn_show takes one packed message. If the packed bytes have several messages, unpacks them first. */
+    /* capn_show takes only one packed message. If the packed bytes have several messages, they are unpacked first. */
     if (in.form == CAPN_PACKED && show(&in, NULL, 0, &report) == CAPN_TRAILING) {
         capn_unpack(in.bytes, size, 1u << 20, NULL, 0, &report);
         size = report.length;

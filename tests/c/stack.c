@@ -1,11 +1,11 @@
-/* Measures the stack that each call needs. It fills the stacks of threads with a pattern, and finds how much of the
- * pattern is left. The messages are chains of objects as deep as the limit allows. They have one segment, two segments,
- * or more segments than a call reads without an allocation. The program fails if a call needs more stack than its
- * bound. */
+/* Measures the stack that each call needs. The program fills the stack of a thread with a pattern, makes a call, and
+ * measures how much of the pattern is left. It fails if a call needs more stack than its bound. The messages are chains
+ * of objects as deep as the limit allows. They have one segment, two segments, or more segments than a call reads
+ * without an allocation. */
 
-/* The arguments are the bounds: stack BASE OTHERS SHOW INDEX SAME. Every call may need BASE bytes. The other arguments
- * are the bytes that a call may need in addition for each level of depth. SHOW is for capn_show, INDEX for capn_index,
- * SAME for capn_same, and OTHERS for all other calls. */
+/* The arguments are bounds in bytes: stack BASE OTHERS SHOW INDEX SAME. Each call may use BASE bytes of stack, and more
+ * for each level of depth: SHOW bytes for capn_show, INDEX for capn_index, SAME for capn_same, and OTHERS for every
+ * other call. */
 #include "usual.h"
 #include <pthread.h>
 #include <stdio.h>
@@ -14,8 +14,8 @@
 
 enum { ROOM = 1 << 20 };
 enum { MOST_SEGMENTS = 66, CALLS = 32, KINDS = 4 };
-/* A call may use more stack for each level of depth. Three calls have a bound of their own for a level, and all other
- * calls share one bound. `levels` has the bounds in bytes. */
+/* A call may use `base` bytes of stack, and `levels` bytes more for each level of depth. capn_show, capn_index and
+ * capn_same have their own numbers in `levels`. The first number is for all other calls. */
 static const char *const names[KINDS] = {"", "capn_show ", "capn_index ", "capn_same "};
 static size_t base, levels[KINDS];
 static uint8_t in[8 * 4096], framed[8 * 4096 + 1024], text[ROOM], scratch[ROOM];
@@ -32,8 +32,8 @@ static void put(size_t at, uint32_t low, uint32_t high) {
     }
 }
 
-/* Finds the path to an error. The error is an object that is one level too deep, or the object at which the traversal
- * limit is exceeded. */
+/* Finds the path to an error. The error is at an object that is one level too deep, or that exceeds the traversal
+ * limit. */
 static capn_status led(uint32_t form, const uint8_t *bytes, size_t count) {
     const uint32_t most = depth > 1 ? depth - 1 : 1;
     const capn_limits limits = limits_of(1u << 28, depth > 1 ? 1u << 28 : 0, most, CAPN_PLAIN);

@@ -1,6 +1,5 @@
-/* Makes capn.h return each of its statuses, and tests that all calls agree on the status of an input. Prints the
- * numbers of the statuses that were returned, in order. `tests/c/run` compares these numbers with those of the
- * header. */
+/* Makes calls that return each status of capn.h. All calls have to agree on the status of an input. Prints the numbers
+ * of the statuses that were returned, in order. `tests/c/run` compares these numbers with those of the header. */
 #include "refusing.h"
 #include "usual.h"
 #include <stdio.h>
@@ -22,9 +21,8 @@ static void is(const char *what, capn_status status, capn_status wanted) {
     want(what, status, wanted);
 }
 
-/* Makes each call on some bytes. capn_canonical is called with a buffer and without a buffer, and
- * capn_canonical_with_scratch with scratch memory. capn_index is left out if the bytes are packed. If the message has a
- * capability, only capn_canonical, capn_hash and capn_same report it. */
+/* Makes each call on some bytes. Leaves out capn_index if the bytes are packed. A capability in the message is an error
+ * only for capn_hash, capn_same and the calls that return canonical bytes. */
 static capn_report each_call(const char *what, uint32_t form, const void *bytes, size_t size, const capn_limits *limits,
                              uint32_t wanted) {
     capn_report checked, report;
@@ -58,8 +56,8 @@ static capn_report each_call(const char *what, uint32_t form, const void *bytes,
     return wanted == CAPN_CAPABILITY ? report : checked;
 }
 
-/* Makes each call on some words three times: without a segment table, with a table of one segment, and with a table of
- * two segments. The second of the two segments has no words. The messages with a table are also packed. */
+/* Makes each call on some words: without a segment table, with a table of one segment, and with a table of two
+ * segments. The second segment has no words. The messages with a table are also packed. */
 static void walks(const char *what, const uint64_t *words, size_t count, const capn_limits *limits, uint32_t wanted,
                   uint32_t word) {
     uint8_t bytes[32], text[64];
@@ -139,9 +137,8 @@ static void reading(void) {
     want("its offset", report.at, 2);
 }
 
-/* Passes packed bytes that unpack to more words than one message with the longest segment table may have. Then passes
- * more words than a message without a table may have. In this second call, the words lie in memory that can't be
- * accessed. */
+/* Passes packed bytes that unpack to more words than a message with the longest segment table may have. Also passes
+ * more words than a message without a segment table may have. These words lie in memory that can't be accessed. */
 static void too_long(void) {
     const capn_limits one = limits_of(1, 1, 1, CAPN_STRICT);
     uint8_t zeros[18];
@@ -183,10 +180,9 @@ static void called(void) {
     is("a struct with a zero word", capn_is_canonical(message + 8, 16, &usual, &report), CAPN_NOT_CANONICAL);
 }
 
-/* Makes calls while every allocation fails. Calls on packed bytes or on a stream of 65 segments return CAPN_MEMORY. The
- * calls for packing, unpacking and showing also return CAPN_MEMORY. For a message in one or two segments, the calls for
- * the canonical bytes and for the index succeed, because they don't allocate. The call for a digest succeeds only if
- * the message itself is canonical. */
+/* Makes calls while every allocation fails. For packed bytes, and for a stream of 65 segments, they return CAPN_MEMORY.
+ * capn_pack, capn_unpack and capn_show always return CAPN_MEMORY. capn_canonical and capn_index don't allocate for a
+ * message in one or two segments, so they succeed. capn_hash succeeds only if the message itself is canonical. */
 static void without_memory(void) {
     const uint8_t many[272] = {64, 0, 0, 0, 1}, two[24] = {1, 0, 0, 0, 1}, packed[9] = {0x10, 1, 0, 0};
     const uint8_t loose[16] = {0, 0, 0, 0, 1};

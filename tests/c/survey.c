@@ -6,9 +6,9 @@
 
 static uint8_t *guarded;
 
-/* Calls capn_survey on some words three times: without a segment table, with a table of one segment, and with a table
- * of three segments. Two of the three segments have no words. The statistics have to be the expected ones, with one
- * exception: a message of three segments is never canonical. */
+/* Calls capn_survey on some words: without a segment table, with a table of one segment, and with a table of three
+ * segments. Two of the three segments have no words. A message of three segments is never canonical. All other
+ * statistics have to be the expected ones. */
 static void figures(const char *what, const uint64_t *words, uint32_t count, capn_figures wanted) {
     for (uint32_t segments = 0; segments <= 3; segments += segments == 0 ? 1 : 2) {
         size_t table = segments == 0 ? 0 : 8 * (segments / 2 + 1), size = table + 8 * count;

@@ -12,14 +12,13 @@ static void broken(const char *what, const char *text) {
     fprintf(stderr, "texts: %s: %s\n", what, text);
 }
 
-/* Tests the text of an error in buffers of each size. If the buffer is too small, the text is cut. The text in the
- * buffer always ends with a zero byte. No byte after the buffer is written. The returned length is always the length of
- * the whole text. */
+/* Tests the text of an error in buffers of each size. The text is cut if the buffer is too small, but always ends with
+ * a zero byte. No byte after the buffer is written. The returned length is always the length of the whole text. */
 static void is(capn_status status, const capn_report *report, const char *wanted) {
     const size_t length = strlen(wanted);
     if (capn_refusal_text(status, report, NULL, 0) != length) broken("another length without room", wanted);
     for (size_t room = 1; room <= length + 2; room++) {
-        char *out = malloc(room); /* a block of exactly this size, so that a sanitizer detects a write past its end */
+        char *out = malloc(room); /* exactly `room` bytes, so that a sanitizer detects a write past the end */
         memset(out, 'x', room);
         if (capn_refusal_text(status, report, out, room) != length) broken("another length", wanted);
         const size_t written = length < room ? length : room - 1;

@@ -1,5 +1,5 @@
-/* Tests simultaneous calls. Several threads start together. Each of them makes every call of capn.h on the same input,
- * with its own buffers. Each thread must get the results that a single thread gets. */
+/* Tests simultaneous calls. Several threads start together. Each thread makes every call of capn.h on the same input,
+ * with its own buffers. Its results must be those of a single thread. */
 #include "usual.h"
 #include <pthread.h>
 #include <stdio.h>

@@ -23,7 +23,7 @@ static void digits(const uint8_t *bytes, size_t size) {
     for (size_t i = 0; i < size; i++) printf("%02x", bytes[i]);
 }
 
-/* Prints the text of an error. If the error is one of packing or unpacking, the name of the form is left out. */
+/* Prints the text of an error. If packing or unpacking failed, the name of the form is left out. */
 static void refusal(capn_status status, const capn_report *r, int of_packing) {
     char text[128];
     if (capn_refusal_text(status, r, text, sizeof text) >= sizeof text) printf("a text that is too long: ");
@@ -39,8 +39,8 @@ static void fail(const char *why) {
     printf("broken: %s", why);
 }
 
-/* A function that makes a call which writes to a buffer. The test passes buffers of size 0, of exactly the needed
- * length, and of one byte less. */
+/* Makes a call that writes to a buffer. The test passes buffers of size 0, of exactly the needed length, and of one
+ * byte less. */
 typedef capn_status into(const void *call, uint8_t *out, size_t room, capn_report *report);
 
 static void with_rooms(into *make, const void *call, int is_measured, int is_priced) {
@@ -94,9 +94,8 @@ static capn_status unpacked(const void *at, uint8_t *out, size_t room, capn_repo
     return capn_unpack(call->bytes, call->size, call->most, out, room, report);
 }
 
-/* Calls the library in order to do what `capn hash` does. Prints the result that `capn hash` has to give: the status,
- * the output in hexadecimal, and the error. The output has the digests of the messages of a stream, or the digest of
- * one message that is packed or has no segment table. */
+/* Computes what `capn hash` has to print. Prints the status, the output in hexadecimal, and the error. The output has
+ * the digest of each message of a stream, or of one message that is packed or has no segment table. */
 static void hashed(const struct call *call) {
     char *lines = calloc(call->size + 1, 65);
     size_t lines_length = 0, taken;

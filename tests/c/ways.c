@@ -1,10 +1,12 @@
 /* Tests capn_refusal_way, which finds the path to an error, and capn_departure, which finds the first difference from
- * the canonical form. With the argument `answers`, it reads calls from standard input. For each call that has limits,
- * it calls capn_refusal_way or capn_departure on the same bytes, and prints a line with the path or the difference that
- * the call reports. It prints `?` if the bytes aren't one message. With the argument `agrees`, it makes both calls on
- * the bytes at the end of each line, in each form (stream, packed and bare) and with some limits. The array for the
- * path has exactly the length of the path, is longer, is shorter, or is missing. The results are compared with
- * capn_check, capn_survey and capn_canonical. The test also makes each allocation fail once. */
+ * the canonical form. The array for the path has the right length, is longer, is shorter, or is missing. Each
+ * allocation also fails once. */
+
+/* Each line of standard input is a call, and ends with bytes in hexadecimal. The argument says what the program does:
+ *   - `answers` prints a line for each call that has limits: the path or the difference for the bytes, or `?` if the
+ *     bytes aren't one message
+ *   - `agrees` reads the bytes in each form (stream, packed and bare) and with some limits, and compares the results
+ *     with those of capn_check, capn_survey and capn_canonical */
 #define TEST "ways"
 #include "refusing.h"
 #include "wanted.h"

@@ -1,6 +1,6 @@
-"""Reads calls from standard input. For each call that has limits, prints an answer in the format of `ways answers` (see
-ways.c). The answer is a path to an error, or the first difference from the canonical form. The script takes it from the
-output of `capn explain`. The variable CAPN names the command line tool `capn`."""
+"""Prints what `capn explain` reports about messages, in the format of `ways answers` (see ways.c). Each line of
+standard input is a call. For each call that has limits, the script prints a path to an error, or the first difference
+from the canonical form. The variable CAPN names the command line tool `capn`."""
 import os
 import re
 import subprocess
@@ -25,8 +25,8 @@ def departure(value):
 
 
 def told(lines):
-    """Returns the line that the C program has to print for a message, given the lines that `capn explain` printed for
-    it. Returns `?` if `capn explain` can't read the message."""
+    """Returns the line that the C program `ways answers` has to print for a message. The line is made from the lines
+    that `capn explain` printed. It is `?` if `capn explain` can't read the message."""
     values = dict(line.split(": ", 1) for line in lines if ": " in line)
     if "way" in values:
         return f"way {values['way']}"

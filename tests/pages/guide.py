@@ -21,8 +21,8 @@ BLOCK = re.compile(r"^```(sh|bash|text)\n(.*?)^```$", re.M | re.S)
 
 
 def pairs(page):
-    """Yields the language and the text of each code block of a page, and the output that the page shows for it. The
-    output is None if the page shows no output."""
+    """Yields the language, the text and the output of each code block of a page. The output is None if the page shows
+    no output for the block."""
     found = BLOCK.findall(page)
     for at, (language, block) in enumerate(found):
         if language != "text":

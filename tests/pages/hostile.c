@@ -1,13 +1,12 @@
 /* Calls the functions of the examples in docs/C.md. Each code block of that page is compiled alone, and linked with
- * this program.
- *
- * `hostile CALL [DEPTH] < MESSAGE` calls one function on standard input, with the nesting limit DEPTH.
- * `hostile sign KEY < MESSAGE` writes a signature.
- * `hostile verify KEY SIGNATURE < MESSAGE` verifies a signature.
- * `hostile all ROUNDS FILE..` calls all functions on each file and on changed copies of it, and compares some results.
- * The commands `sign` and `verify` exist only if this program was compiled with -DSIGNS.
- *
- * Each message has its own block of memory, so that a sanitizer detects a read past its end. */
+ * this program. Each message has its own block of memory, so that a sanitizer detects a read past its end. */
+
+/* The commands of this program:
+ *   - `hostile CALL [DEPTH] < MESSAGE` calls one function on standard input, with the nesting limit DEPTH
+ *   - `hostile sign KEY < MESSAGE` writes a signature, if the program was compiled with -DSIGNS
+ *   - `hostile verify KEY SIGNATURE < MESSAGE` verifies a signature, if the program was compiled with -DSIGNS
+ *   - `hostile all ROUNDS FILE..` calls all functions on each file and on changed copies of it, and compares some
+ *     results */
 #include <capn.h>
 #include <capn_fields.h>
 #include <stdio.h>
