@@ -1,5 +1,5 @@
-"""Code that the scripts which prove crates share. It reads crates.txt, copies crates, runs `rt ci`, prints a line when
-a crate is done, and builds the library for C."""
+"""Shared code of the scripts that prove crates. It reads crates.txt, copies crates, runs `rt ci`, prints a line when a
+crate is done, and builds the library for C."""
 
 import glob
 import os
@@ -30,8 +30,7 @@ def text_of(path):
 
 
 def crates(top=TOP):
-    """Returns all crates in the order of crates.txt. For each crate, also returns the crates of this repository that it
-    uses."""
+    """Returns all crates in the order of crates.txt, each with the crates of this repository that it uses."""
     lines = re.findall(r"^(\w+)(?: staticlib)?:(.*)$", text_of(os.path.join(top, "crates.txt")), re.M)
     names = {name for name, _ in lines}
     return {name: [it for it in used.split() if it in names] for name, used in lines}
@@ -105,7 +104,7 @@ class Run:
         self.done, self.since, self.lines, self.after = 0, since or time.time(), [], []
 
     def when(self, names, call):
-        """Registers a function. It is called once: when all the given crates are proved."""
+        """Registers a function that is called once, when all the given crates are proved."""
         self.after.append((set(names), call))
 
     def look(self, line):

@@ -1,6 +1,6 @@
-// Uses the reference implementation to write an archive of messages. `archive COUNT` writes COUNT messages. A third of
-// them are persons, a third are series of numbers, and a third are trees. With the same COUNT, the program always
-// writes the same bytes.
+// Writes an archive of messages with the reference implementation. `archive COUNT` writes COUNT messages: a third are
+// persons, a third are series of numbers, and a third are trees. With the same COUNT, the program always writes the
+// same bytes.
 #include "archive.capnp.h"
 #include <capnp/message.h>
 #include <capnp/serialize.h>

@@ -1,6 +1,6 @@
-/* calls OPERATION STEPS < MESSAGE: makes a call of the C library STEPS times, on a message with its segment table. It
- * prints the length of the message in bytes. It allocates the buffers before the first call. bench/count counts the
- * instructions of one call. */
+/* calls OPERATION STEPS < MESSAGE: does an operation of the C library STEPS times, on a message with its segment table.
+ * The program prints the length of the message in bytes. It allocates all buffers first. bench/count counts the
+ * instructions of one operation. */
 #include "capn.h"
 #include <stdio.h>
 #include <stdlib.h>

@@ -1,6 +1,6 @@
-// layers MILLISECONDS < MESSAGE: measures how long calls of capn.hpp take on a message. Each call is measured for
-// MILLISECONDS, in batches of 0.2 milliseconds or more. For each call, the program prints a line: the name of the call,
-// and how many nanoseconds one call took in the fastest batch. bench/layers runs the program.
+// layers MILLISECONDS < MESSAGE: measures the time of calls of capn.hpp on a message. Each call is measured for
+// MILLISECONDS, in batches of 0.2 milliseconds or more. The program prints a line for each call: its name, and the
+// nanoseconds of one call in the fastest batch. bench/layers runs the program.
 #include "capn.hpp"
 #include <chrono>
 #include <cstdio>

@@ -1,6 +1,6 @@
 // Runs the reference implementation on a message with its segment table. `reference OPERATION STEPS < MESSAGE` does the
-// operation STEPS times, and prints a number of bytes. To get the cost per byte, divide the cost of one operation by
-// this number. `reference write < MESSAGE` writes the canonical bytes of the message.
+// operation STEPS times, and prints the number of bytes that one operation works on. `reference write < MESSAGE` writes
+// the canonical bytes of the message.
 #include <capnp/any.h>
 #include <capnp/message.h>
 #include <capnp/serialize-packed.h>

@@ -1,8 +1,7 @@
-/* The calls of capn.h. Each call makes a proved (formally verified) call of the same name. If the caller's argument
- * `limits` is null, the call passes on the default limits instead. If the caller's argument `report` or `which` is
- * null, the call passes on the address of a local variable instead. `make linked` renames the proved calls to
- * proved_capn_*, and hides them. The code of this file isn't proved. It keeps no state, and reads and writes only its
- * arguments. If no argument is null, the code makes only two comparisons and a jump. */
+/* The functions of capn.h. Each passes its arguments to a proved (formally verified) function of the same name, which
+ * `make linked` renames to proved_capn_* and hides. Null pointers are replaced first: `limits` by the default limits,
+ * and `report` or `which` by the address of a local variable. If no argument is null, this takes two comparisons and a
+ * jump. The code of this file isn't proved. It keeps no state, and reads and writes only its arguments. */
 #include "capn.h"
 
 static const capn_limits usual = CAPN_USUAL_LIMITS;
@@ -96,7 +95,7 @@ WITH_LIMITS(capn_annotate,
              size_t most_lines, capn_report *report),
             (form, bytes, size, limits, lines, most_lines, report))
 
-/* Defines a call that takes two messages. Its argument `which` may be null, too, like `limits` and `report`. */
+/* Defines a call that takes two messages. The argument `which` of this call may be null, like `limits` and `report`. */
 HIDDEN capn_status proved_capn_same(uint32_t form, const uint8_t *a, size_t size_a, const uint8_t *b, size_t size_b,
                                     const capn_limits *limits, uint32_t *which, capn_report *report);
 static SELDOM capn_status capn_same_by_default(uint32_t form, const uint8_t *a, size_t size_a, const uint8_t *b,

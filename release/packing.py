@@ -33,7 +33,7 @@ class Stop(Exception):
 
 
 def said(*words, cwd=TOP, env=None, text=True):
-    """Runs a command, and returns its output. If the command fails, raises an exception that has the output."""
+    """Runs a command, and returns its output. If the command fails, raises an exception with the output."""
     try:
         ran = subprocess.run(words, cwd=cwd, env=env, stdout=subprocess.PIPE, stderr=subprocess.PIPE, check=False)
     except FileNotFoundError:
@@ -59,8 +59,8 @@ def sum_of(path):
 
 
 def commit_of(top=TOP):
-    """Returns four things about a clone: its current commit, the tree of this commit, the time of this commit in
-    seconds, and whether the clone has no changes."""
+    """Returns the state of a clone: the current commit, the tree of this commit, the time of this commit in seconds,
+    and whether the clone has no changes."""
     try:
         commit, tree, seconds = said("git", "show", "-s", "--format=%H %T %ct", "HEAD", cwd=top).split()
         return commit, tree, int(seconds), not said("git", "status", "--porcelain", cwd=top).strip()
@@ -187,7 +187,7 @@ def proved_in(path):
 
 
 def claims_of(text):
-    """Returns the head lines and the hashes of the file PROVED as a dictionary. Its keys are the beginnings of
+    """Returns the head lines and the hashes of the file PROVED as a dictionary, whose keys are the beginnings of
     lines."""
     return dict(re.findall(r"^(commit|tree|toolchain|sha256 \S+) (.+)$", text, re.M))
 

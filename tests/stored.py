@@ -19,8 +19,7 @@ Case = collections.namedtuple("Case", "crate path name call answer")
 
 
 def word_of(call):
-    """Returns the name of a call. The name is the first word of the line. If this word is `plain`, the name is the
-    second word."""
+    """Returns the name of a call: the first word of its line, or the second word if the first is `plain`."""
     words = call.split(" ")
     return words[1] if words[0] == "plain" and len(words) > 1 else words[0]
 
@@ -70,8 +69,8 @@ def all_cases():
 
 
 def asked(cases, before=""):
-    """Returns the input with which a program answers the given cases. In this input, each call comes after the text
-    `before`."""
+    """Returns the input with which a program answers the given cases. In this input, the text `before` precedes each
+    call."""
     return "".join(f"{case.name}\n{before}{case.call}\n" for case in cases)
 
 

@@ -19,24 +19,23 @@ sys.path.insert(0, os.path.join(TOP, ".ci"))
 import proving
 
 LOG = "build/tries.log"
-# The most memory that one run of `rt try` uses, in GiB. This includes the memory of the compiler. It also includes that
-# of the check of names, which runs at the same time.
+# The most memory of one run of `rt try`, in GiB. It includes the memory of the compiler, and of the check of names that
+# runs at the same time.
 MEMORY = 2
-# The number of test cases that one run of a program gets. The number is small, because the program may end at a case.
-# The remaining cases of the run are then not tried.
+# The number of test cases that one run of a program gets. The number is small, because the program may end at a case
+# and leave the remaining cases untried.
 AT_ONCE = 40
 # The number of seconds that one run of a program may take, even on a busy machine.
 SECONDS = 1200
-# The number of lines of errors that are printed for a crate, at most. This number is enough for the errors of ten
-# cases.
+# At most this many lines of errors are printed for a crate. They are enough for the errors of ten cases.
 MOST_LINES = 40
 
 # A job tests a crate. It has the name of the crate, a word that says what is tested, and a function that returns the
 # errors and the output.
 Job = collections.namedtuple("Job", "crate what run")
 # The code of a test file: its crate, its imports from the product, and the words of the rest. `calls` has the words
-# before a parenthesis. `dotted` has those words of `calls` that come after a dot. `paths` has the pairs of words around
-# `::`.
+# before a parenthesis, and `dotted` has those after a dot and before a parenthesis. `paths` has the pairs of words
+# around `::`.
 Code = collections.namedtuple("Code", "crate imports words calls dotted paths")
 # An exported function, and the crate that exports it. For the calls of c/capn.h, the name of the crate is `c`.
 Function = collections.namedtuple("Function", "crate name")
@@ -57,8 +56,8 @@ def tests_of(crate):
 
 
 def modules_of_calls(crate):
-    """Takes a crate with test cases. For each call of these cases, returns the modules that the call depends on. They
-    are the call's own module and all modules that it uses."""
+    """Returns, for each call in the test cases of a crate, the modules that the call depends on: the call's own module,
+    and all modules that this module uses."""
     folder = os.path.join(TOP, "crates", crate, "src")
     modules = {name[:-3]: text_of("crates", crate, "src", name) for name in os.listdir(folder)}
 
@@ -73,8 +72,8 @@ def modules_of_calls(crate):
 
 
 def crates_of_calls(crate):
-    """Takes a crate with test cases. Yields each call of these cases, together with the crates that the call's modules
-    import. The answer to the call depends on these imported crates."""
+    """Yields each call in the test cases of a crate, with the crates that the call's modules import. The answer to the
+    call depends on these crates."""
     for word, used in modules_of_calls(crate).items():
         texts = [text_of("crates", crate, "src", f"{one}.rt") for one in used]
         yield word, {name for text in texts for name in re.findall(r"^use (capn_\w+)", text, re.M)}
@@ -153,8 +152,8 @@ def cases_job(crate, cases):
         with tempfile.TemporaryDirectory() as folder:
             for number, part in enumerate(parts):
                 with open(os.path.join(folder, f"{number:04}"), "w", encoding="utf-8") as file:
-                    # With the word `few`, a test makes some of the allocations of each call fail, and not all of them.
-                    # In `make test`, which runs the compiled code, each allocation fails in turn.
+                    # With the word `few`, a test makes only some allocations of each call fail. `make test`, which runs
+                    # the compiled code, makes each allocation fail in turn.
                     file.write(stored.asked(part, "few "))
             # `rt try` interprets the program. The interpreter can't run code that allocates memory from the system.
             status, out, said = try_crate(crate, ["--steps", "1", "--seconds", str(SECONDS), "--cases", folder])
@@ -221,9 +220,9 @@ def methods(crate, types):
 
 
 def exported():
-    """Yields each function that a crate of the product (capn*) exports, each public function of a type that it exports,
-    and each call of c/capn.h. Leaves out the laws. Also leaves out what the crate imports from another crate of the
-    product and then exports again."""
+    """Yields the functions that tests have to name: the functions and methods that the crates of the product (capn*)
+    export, and the calls of c/capn.h. Leaves out the laws, and what a crate of the product exports again from another
+    one."""
     for crate in product():
         own = [name for path, name in items(crate) if path.split("::")[0] not in product()]
         yield from (Function(crate, name) for name in dict.fromkeys(own) if name[0].islower())
@@ -233,8 +232,8 @@ def exported():
 
 
 def imports_of(text, crate):
-    """Yields what a file imports from the crates of the product: the crate, the item, and the item's name in the file.
-    `crate` is the crate of the file."""
+    """Yields what a file of `crate` imports from the crates of the product: the crate of the item, the item, and the
+    item's name in the file."""
     for path, names, each in USED.findall(text):
         first = path.split("::")[0]
         origin = crate if first in ("crate", "super") else first
@@ -274,8 +273,8 @@ def code_of(crate, imports, code):
 
 @functools.cache
 def providers(crate, name):
-    """Returns the crates of the product that export an item of the given crate: this crate, and those that export it
-    again."""
+    """Returns the crates of the product that export an item of the given crate: the given crate, and the crates that
+    export the item again."""
     found = {crate}
     for one in product():
         if one not in found and any(item == name and path.split("::")[0] in found for path, item in items(one)):
@@ -284,9 +283,9 @@ def providers(crate, name):
 
 
 def is_named(function, file):
-    """Tests whether a test file uses an exported function. The file has to import the function, or the type of a
-    method, from a crate that exports it. The name also has to occur once more, outside of the import. It may also occur
-    after the name of an imported module, as in `MODULE::NAME`."""
+    """Returns whether a test file uses an exported function. The file has to import the function, or the type of the
+    method, from a crate that exports it. The name also has to occur outside of the import, or after the name of an
+    imported module, as in `MODULE::NAME`."""
     if function.crate == "c":
         return not file.crate and function.name in file.calls
     item, _, method = function.name.partition("::")
@@ -304,8 +303,8 @@ def naming(function):
 
 
 def jobs_naming(files):
-    """Yields the jobs for the given test files. The jobs run all tests of the files' crates, and those test cases whose
-    calls depend on one of the files."""
+    """Yields the jobs for the given test files. They run all tests of the files' crates, and the test cases whose calls
+    depend on one of the files."""
     for crate in sorted({file.split("/")[1] for file in files}):
         if tests_of(crate):
             yield tests_job(crate)
@@ -316,8 +315,7 @@ def jobs_naming(files):
 
 
 def workers():
-    """Returns how many crates are tested at once. It is one crate for each processor, or fewer if there isn't enough
-    memory."""
+    """Returns how many crates are tested at once: one for each processor, or fewer if there isn't enough memory."""
     with open("/proc/meminfo", encoding="ascii") as file:
         free = int(re.search(r"^MemAvailable: +(\d+)", file.read(), re.M)[1]) // (MEMORY << 20)
     return max(1, min(len(os.sched_getaffinity(0)), free))
@@ -350,8 +348,8 @@ def run_all(jobs):
 
 
 def nearest(crate, names, tried):
-    """Returns the crates of `tried` that are the fewest steps away from a crate. A crate that names `crate` is one step
-    away. A crate that names such a crate is two steps away, and so on."""
+    """Returns the crates of `tried` that are nearest to a crate. A crate that names `crate` is one step away. A crate
+    that names such a crate is two steps away, and so on."""
     above = {crate}
     while above:
         found = [it for it in tried if it in above and it != crate]
@@ -362,9 +360,9 @@ def nearest(crate, names, tried):
 
 
 def calls_reaching(crate, names):
-    """Finds the first program with a call that uses the given crate. Returns the program, and all its calls that use
-    the crate. A call uses the crate if one of the call's modules imports it. If no module of the program imports the
-    crate, a module that imports it indirectly is enough."""
+    """Finds the first program with a call that uses the given crate. Returns the program, and all of its calls that use
+    the crate. The call's modules have to import the crate. If no module of the program does, an indirect import is
+    enough."""
     for one in stored.CRATES:
         found = dict(crates_of_calls(one))
         if crate == one or crate in names[one] and crate not in set().union(*found.values()):
@@ -377,7 +375,7 @@ def calls_reaching(crate, names):
 
 
 def reaching(crate):
-    """Returns what has to run so that a crate is tested. This is three items: the crates of tests that are the fewest
-    steps away from the crate, a program with test cases, and the calls of these cases."""
+    """Returns what has to run so that a crate is tested: the nearest crates with tests, a program with test cases, and
+    the calls of these cases."""
     names = proving.crates()
     return nearest(crate, names, [it for it in names if tests_of(it)]), *calls_reaching(crate, names)

@@ -10,8 +10,8 @@
 static const char *const kinds[] = {"null", "struct", "void", "bits", "bytes", "u16", "u32", "u64", "pointers", "rows",
                                     "capability"};
 
-/* Prints entry i of the index, and all entries below entry i. The first of these is entry i + 1. `span` is the number
- * of entries from an entry to its next sibling. */
+/* Prints entry i of the index, and all entries below entry i. `span` is the number of entries from an entry to its next
+ * sibling. */
 static void print_entry(const capn_entry *all, size_t i, int level, const uint8_t *bytes) {
     const capn_entry *e = &all[i];
     printf("%*s%s", 2 * level, "", kinds[e->kind]);

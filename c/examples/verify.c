@@ -1,7 +1,7 @@
 /* verify FILE DIGEST: exits with 0 if a file is exactly one message, and the SHA-256 of its canonical bytes is DIGEST.
  * It exits with 1 if the file isn't such a message, with 2 on wrong usage, and with 3 if the file cannot be read. The
- * program verifies no signature. Before you run the program, verify a signature yourself: that of a statement which has
- * the protocol, the type and the digest. */
+ * program verifies no signature. Before you run the program, verify the signature of a statement that has the protocol,
+ * the type and the digest. */
 #include "capn.h"
 #include <stdio.h>
 #include <string.h>

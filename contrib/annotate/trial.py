@@ -113,8 +113,8 @@ def paged(lines, message=None):
 
 
 class Elements(html.parser.HTMLParser):
-    """The elements of a page: words, lines, folds and scripts. If `unfold` is set, the elements inside the folds belong
-    to them, too."""
+    """The elements of a page: words, lines, folds and scripts. If `unfold` is set, also has the elements inside the
+    folds."""
 
     def __init__(self, text, unfold=True):
         super().__init__()
@@ -388,9 +388,8 @@ SEEN = """
   return box.height > 0 && box.top >= 0 && box.bottom <= innerHeight;
 })()
 """
-# For each kind of word, there is a contrast between the word's text and its background. This is the lowest of these
-# contrasts. By the rules for accessible pages, the contrast is (L1 + 0.05) / (L2 + 0.05), where L1 is the greater and
-# L2 the lesser luminance.
+# The lowest contrast between the text and the background of a word, over all kinds of words. By the rules for
+# accessible pages, a contrast is (L1 + 0.05) / (L2 + 0.05), where L1 is the greater and L2 the lesser luminance.
 CONTRAST = """
 (() => {
   const level = (text) => {

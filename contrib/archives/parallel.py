@@ -33,9 +33,9 @@ PASSED_OVER = re.compile(rb"capn: (\d+) of (\d+) messages refused, the first is 
 
 
 class Part(NamedTuple):
-    """A part of an archive: how many messages are before the part, where it begins, how many messages it has, and where
-    it ends. A part has only complete messages, except for the last part. The last part is the rest of the archive,
-    which may have any bytes, and its end isn't given."""
+    """A part of an archive: the number of messages before it, where it begins, its number of messages, and where it
+    ends. A part has only complete messages. Only the last part may have any bytes: it is the rest of the archive, and
+    its end isn't given."""
 
     before: int
     begin: int

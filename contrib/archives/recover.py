@@ -53,8 +53,7 @@ class Message(NamedTuple):
 
 
 class Span(NamedTuple):
-    """A range of bytes of an archive. Either the range has complete messages, and is kept, or it is skipped because of
-    an error. A skipped range also has the error."""
+    """A range of bytes of an archive. A kept range has complete messages. A skipped range has an error."""
 
     begin: int
     end: int
@@ -117,8 +116,8 @@ class Sample:
         return message.cost is not None and (message.cost > 0 or self.has_null)
 
     def is_like(self, message: Message) -> bool:
-        """Returns whether a message is accepted and looks like the messages of the sample. The message must
-        not be longer than the messages of the sample, and must not have more unused words than they have."""
+        """Returns whether a message is accepted and looks like the messages of the sample: it isn't longer than the
+        longest of them, and has no more unused words than they have."""
         return self.takes(message) and message.words <= min(self.words, self.unused + (message.cost or 0))
 
 
@@ -149,8 +148,8 @@ class Archive:
                 yield from self.between(bad, at)
 
     def next_good(self, bad: Message) -> int:
-        """Returns the byte at which a row of good messages begins: the first such row after the beginning of a bad
-        message. If no such row exists, returns the end of the archive."""
+        """Finds the next row of good messages after the beginning of a bad message. Returns the byte at which this row
+        begins, or the end of the archive if there is no such row."""
         rows: list[tuple[int, list[int]]] = []
         most, size = 1, 0
         if self.nested and bad.end > bad.begin and self.first_good([(bad.end, self.ends(bad.end))]):
@@ -166,9 +165,8 @@ class Archive:
         return self.first_good(rows) or self.size
 
     def ends(self, at: int) -> list[int]:
-        """Returns the ends of the messages in a row that begins at byte `at`. The ends come from the messages' segment
-        tables. If `end` returns 0 for one of the messages, returns no ends. Otherwise the row has `self.row` messages,
-        or fewer if the archive ends first."""
+        """Returns the ends of the messages in a row that begins at byte `at`, by their segment tables. Returns no ends
+        if `end` returns 0 for a message. A row has `self.row` messages, or fewer if the archive ends first."""
         ends: list[int] = []
         while len(ends) < self.row and at < self.size:
             at = self.end(at)
@@ -180,8 +178,8 @@ class Archive:
         return ends
 
     def end(self, at: int) -> int:
-        """Returns the end of the message that begins at byte `at`, as the message's segment table gives it. Returns 0
-        if the message has more words than the sample allows."""
+        """Returns the end of the message that begins at byte `at`, by its segment table. Returns 0 if the message has
+        more words than the sample allows."""
         if at + 8 > self.size:
             return self.size + 1
         last, first = struct.unpack_from("<II", self.data, at)
@@ -206,10 +204,9 @@ class Archive:
         return 0
 
     def between(self, bad: Message, good: int) -> Iterator[Span]:
-        """Yields spans of the bytes from a bad message up to the next message that is like the sample. The segment
-        tables may lead from the bad message exactly to this next message. In this case, they say where each message
-        between the two begins. The script then keeps every accepted message between the two, even if it isn't like the
-        sample."""
+        """Yields ranges of bytes: the bad message, and what comes before the next good message. If the segment tables
+        lead from the bad message exactly to the good message, they say where each message in the middle begins. Then
+        every accepted message in the middle is kept, even if it isn't like the sample."""
         end = bad.begin
         with closing(listed(self.path, bad.begin)) as found:
             for message in found:

@@ -21,8 +21,8 @@ from messages import canonical, framed, in_two_segments, with_zeros
 
 CAPN = os.environ["CAPN"]
 MEGABYTE = 1 << 20
-# The test repeats the messages after a damaged segment table this number of times. One damaged table announces 5,000
-# words. Because the repeated messages have more words than that, the 5,000 words end inside the archive.
+# The messages after a damaged segment table are repeated this number of times. They then have more than the 5,000 words
+# that one damaged table announces.
 MANY = 6
 Ran = tuple[bytes, str, int]
 Place = tuple[int, int, str]
@@ -83,8 +83,8 @@ def nested(inner: bytes) -> bytes:
 
 
 def sized(message: bytes, words: int) -> bytes:
-    """Takes a message of one segment, and changes its segment table: the table then announces `words` words. Returns
-    the changed message."""
+    """Changes the segment table of a message of one segment, so that it announces `words` words. Returns the changed
+    message."""
     return message[:4] + struct.pack("<I", words) + message[8:]
 
 
@@ -138,8 +138,8 @@ def recover(source: random.Random, messages: list[bytes]) -> None:
 
 
 def parallel(messages: list[bytes]) -> None:
-    """parallel.py runs one process for each part of an archive. Compares its output with the output of one process for
-    the whole archive. Some archives are valid, some have rejected messages, and some are truncated."""
+    """Compares the output of parallel.py with the output of one process for the whole archive. Some archives are valid,
+    some have rejected messages, and some are truncated."""
     some = [it if n % 70 else REFUSED for n, it in enumerate(messages)]
     capability = framed([1 << 48, 3])
     archives = {
@@ -194,8 +194,8 @@ def search() -> None:
 
 
 def differences() -> None:
-    """Tests differences.sh on pairs of archives. Some pairs have equal values, and some have values that differ. In
-    some pairs, one archive has messages that the other doesn't have. Some archives have rejected messages."""
+    """Tests differences.sh on pairs of archives. Some pairs have equal values, and others have different values. In
+    some pairs, one archive has more messages. Some archives have rejected messages."""
     five, same = framed([2 << 32, 5, 0]), framed([1 << 32, 5])
     others = {n: framed([1 << 32, n]) for n in (6, 7, 8, 9)}
 

@@ -47,8 +47,8 @@ class Message:
 
 @dataclass
 class Report:
-    """The counts for a report: the number of messages, and the number of messages that were kept. The object also has
-    the number, the offset and the error of each rejected message."""
+    """The counts for a report: the number of messages, and the number of kept messages. Also has the number, the offset
+    and the error of each rejected message."""
 
     messages: int = 0
     kept: int = 0
@@ -80,8 +80,8 @@ def messages_of(listing: bytes) -> list[Message]:
 
 
 def cut(path: str, most: int) -> list[Part]:
-    """Returns the parts of a file. A part has complete messages, with at most `most` bytes in all. If a single message
-    is longer than that, it is a part of its own."""
+    """Returns the parts of a file. A part has complete messages, with at most `most` bytes together. A longer message
+    is a part of its own."""
     with open(path, "rb") as file:
         try:
             messages = messages_of(capn("list", "--keep-going", stdin=file))
@@ -134,8 +134,8 @@ class Choice:
 
 
 def tasks(client: Client, *call: Any, **options: Any) -> list[Future]:
-    """Returns a Dask task for each argument of a call. With pure=False, each task gets a new key. Without it, Dask
-    would compute the key from the arguments, and the tasks for two equal parts would get the same key."""
+    """Returns a Dask task for each argument of a call. Each task gets a new key, because of pure=False. Dask would
+    otherwise compute the keys from the arguments, and give two equal parts the same key."""
     return client.map(*call, **options, pure=False)
 
 

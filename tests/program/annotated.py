@@ -1,6 +1,6 @@
 #!/usr/bin/env python3
-"""Computes the output of the command `annotate`. It is a second implementation of `annotate`, written in Python from
-the definition of its lines. The module `model` has the other commands.
+"""A second implementation of the command `annotate`, in Python. It was written from the definition of the command's
+lines. The module `model` has the other commands.
 
     tests/program/annotated.py [OPTION..] < INPUT
 
@@ -20,27 +20,25 @@ import model
 KINDS = ["pointer", "null", "pad", "tag", "data", "list", "slack", "unreached"]
 # A line quotes at most this many bytes of a list.
 QUOTED = 32
-# The words of a line have three properties in common: their kind, the visit that they belong to, and how often they are
-# covered. A line ends before the first word that differs in one of these properties. A line of a kind in ALONE has only
-# one word.
+# A line has one word if its kind is in ALONE. Any other line goes on while the words have the same kind, belong to the
+# same visit and are covered equally often.
 ALONE = ("pointer", "pad", "tag")
 
-# An object, or a landing pad: the path to the pointer that leads to it, the segment and the index of its first word,
-# and its shape. The shape of a struct is ("struct", words, slots), that of a list is ("list", code, count), that of a
-# list of structs is ("rows", words of the list, structs, words, slots), and that of a landing pad is ("pad", words).
-# Two parts with different paths count as the same if all else is equal.
+# A part of a message: an object or a landing pad. `way` is the path to its pointer. `segment` and `begin` say where its
+# first word is. `shape` is ("struct", words, slots), ("list", code, count), ("pad", words) for a landing pad, or
+# ("rows", words of the list, structs, words, slots) for a list of structs. Two parts count as the same if they differ
+# only in `way`.
 Part = collections.namedtuple("Part", "way segment begin shape")
 MESSAGE = Part((), None, None, ("message",))
 
-# The columns of a line.
+# The columns of a line of `annotate`.
 Line = collections.namedtuple("Line", "offset place bytes times kind way text")
 
 
 class Cover:
-    """Says which objects and landing pads of an accepted message cover which words. Words are numbered from the first
-    segment on. The following lists have an item for each word. `times` says how often the word is covered. `parts` has
-    the part that covers the word first, or None. `roles` has the role of the word in this part. `overlaps` says whether
-    another part covers the word, too."""
+    """Finds which objects and landing pads cover the words of an accepted message. For each word, `times` says how
+    often it is covered. `parts` has the object or landing pad that covers it first, and `roles` has its role there.
+    `overlaps` says whether something else covers it, too."""
 
     def __init__(self, segments):
         self.segments = [struct.unpack(f"<{len(one) // 8}Q", one) for one in segments]
@@ -48,8 +46,8 @@ class Cover:
         total = sum(map(len, self.segments))
         self.times, self.parts, self.roles = [0] * total, [None] * total, [None] * total
         self.overlaps, self.visits = [False] * total, 0
-        # For each word, the number of the visit that covered the word first. A visit follows one pointer. Number 0
-        # stands for the message itself.
+        # For each word, the number of the visit that covered the word first. A visit follows one pointer. The word of
+        # the root pointer has the number 0.
         self.belongs = [None] * total
         self.cover(MESSAGE, 0, 0, 0, 1, "slot")
         self.visit(0, 0, ())
@@ -120,8 +118,8 @@ class Cover:
         return self.segments[part.segment][part.begin + at]
 
     def kept(self, part):
-        """Returns how many data words and how many slots a struct has in the canonical bytes. All structs of a list
-        have the same numbers."""
+        """Canonical bytes leave out zeros at the end of a struct. Returns how many data words and how many slots
+        remain. All structs of a list keep equally many."""
         if part.shape[0] == "struct":
             rows, data, slots, first = 1, *part.shape[1:], 0
         else:
@@ -135,8 +133,8 @@ class Cover:
         return words, links
 
     def place_in(self, part, segment, at):
-        """Finds the place of a word in a list of structs. Returns the number of the struct that has the word, and the
-        index of the word among the words and slots of the struct. A struct outside of a list has the number 0."""
+        """Returns two numbers for a word of a struct: the number of the struct in its list, and the index of the word
+        in the struct. A struct outside of a list has the number 0."""
         if part.shape[0] == "struct":
             return 0, at - part.begin
         size = sum(part.shape[3:])
@@ -169,7 +167,7 @@ class Notes:
         return model.number(self.raw, 8 * number, 8)
 
     def same(self, number):
-        """Returns the properties that all words of a line have in common."""
+        """Returns the properties of a word. All words of a line have the same properties."""
         return self.kind(number), self.cover.belongs[number], self.cover.times[number]
 
     def end(self, segment, at):
@@ -228,9 +226,8 @@ class Notes:
                     "" if way is None else explained.dotted(way), text)
 
     def text(self, segment, at, end, kind):
-        """Returns the text of a line, and the number that the line adds to the count `hidden`. The returned text
-        doesn't have the two endings that a line may have. One ending is about words that canonical bytes leave out, and
-        the other is about overlaps."""
+        """Returns the text of a line, and the number to add to the count `hidden`. The text lacks two endings: the one
+        about overlaps, and the one about words that canonical bytes leave out."""
         number, size = self.cover.starts[segment] + at, end - at
         word, part = self.value(number), self.cover.parts[number]
         if kind == "null":

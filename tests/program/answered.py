@@ -1,7 +1,8 @@
 #!/usr/bin/env python3
-"""Computes the output and the exit status that the program must have for a command line. It calls the function
-`run_COMMAND` of the module `model`, `explained` or `annotated`, with the options of the command as arguments. The help
-texts say which options a command has, and which of them take a number.
+"""Computes the output and the exit status that the program must have for a command line.
+
+The script calls the function `run_COMMAND` of the module `model`, `explained` or `annotated`, with the options of the
+command as arguments. The help texts say which options a command has, and which of them take a number.
 
     tests/program/answered.py COMMAND [OPTION..] < INPUT
 

@@ -1,6 +1,6 @@
-/* This library is preloaded into a program. It counts the program's calls of `malloc` and `realloc`. The variable
- * COUNTED names a file, and the library writes two numbers of 8 bytes to it: the number of calls, and the largest size
- * that a call asked for. */
+/* This library is preloaded into a program. It counts the program's calls of `malloc` and `realloc`. It writes two
+ * numbers of 8 bytes to the file that the variable COUNTED names: the number of calls, and the largest requested size.
+ * */
 #define _GNU_SOURCE
 #include <dlfcn.h>
 #include <fcntl.h>

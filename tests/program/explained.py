@@ -1,5 +1,5 @@
-"""Computes the output of the command `explain`. It is a second implementation of `explain`, written in Python from
-docs/DIAGNOSTICS.md. The module `model` has the other commands."""
+"""A second implementation of the command `explain`, in Python. It was written from docs/DIAGNOSTICS.md. The module
+`model` has the other commands."""
 
 import model
 
@@ -36,15 +36,16 @@ def dotted(way):
 
 
 class Explanation(model.Walk):
-    """A traversal of a message. It keeps the path to the current pointer, and the object that holds this pointer."""
+    """A traversal of a message. It remembers the path to the current pointer, and the object that contains this
+    pointer."""
 
     def __init__(self, segments, limits, begin, table):
         self.begin, self.table, self.limits = begin, table, limits
         self.way, self.holder, self.refused, self.asked = [], None, None, None
         self.capability_way = None
-        # `within` has three items about the object whose pointers are read next: the path to this object, the place of
-        # its first pointer, and a text that describes the object. `shape` has the path to the current object. If this
-        # object is a list of structs, `shape` also has the place of its first struct.
+        # `within` describes the object whose pointers are read next: the path to this object, the place of its first
+        # pointer, and a text about the object. `shape` has the path to the current object. For a list of structs,
+        # `shape` also has the place of its first struct.
         self.within = self.shape = None
         try:
             super().__init__(segments, **limits)
@@ -52,7 +53,7 @@ class Explanation(model.Walk):
             self.refused = str(refused)
 
     def byte(self, segment, at):
-        """Returns the offset in bytes of a word of a segment."""
+        """Returns the byte offset of a word."""
         return self.begin + 8 * (self.table + sum(map(self.words, range(segment))) + at)
 
     def slot(self, segment, at, depth, is_root=False):
@@ -150,15 +151,15 @@ def segments_line(segments):
 
 
 def sizes_line(sizes):
-    """Returns the line of `explain` about segments with the given sizes. For several segments, the line has the sizes
-    of the first eight."""
+    """Returns the line of `explain` about segments with the given sizes. If there are several segments, the line lists
+    at most eight sizes."""
     first = ", ".join(map(str, sizes[:8])) + (", .." if len(sizes) > 8 else "")
     return f"segments: {len(sizes)} of {sum(sizes)} words{': ' + first if len(sizes) > 1 else ''}\n"
 
 
 class Owner(Explanation):
-    """A traversal of canonical bytes that finds the object to which a word belongs. The object is named by the path to
-    its pointer."""
+    """Traverses canonical bytes, and finds the object to which a word belongs. Names this object by the path to its
+    pointer."""
 
     def __init__(self, segment, word, walk):
         self.sought, self.owner = word, None
@@ -217,8 +218,8 @@ def accepted_lines(walk, segments):
 
 
 def came(data, form, offset):
-    """Takes an input whose message was rejected before its traversal. Returns two items: the unpacked bytes from the
-    beginning of the message on, and the bytes of a truncated group."""
+    """Takes an input with a message that was rejected before its traversal. Returns the unpacked bytes from the
+    beginning of this message on. Also returns the bytes of a truncated group."""
     if form != "packed":
         return data[offset:], b""
     words, group = model.unpacked(data)
@@ -243,9 +244,8 @@ def least(rest):
 
 
 def needed(group):
-    """Returns the least number of bytes that a group of packed bytes can have. A group is its tag and the bytes that
-    the tag announces. After the tags 0 and 255, a group also has a count. After the tag 255, the group also has as many
-    words as the count says."""
+    """Returns how many bytes a group of packed bytes must have. The first byte, the tag, announces more bytes. After
+    the tags 0 and 255, the group also has a count. After the tag 255, the count says how many words follow."""
     size = 1 + bin(group[0]).count("1")
     if group[0] not in (0, 255):
         return size

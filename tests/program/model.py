@@ -18,7 +18,7 @@ WIDTH_BITS = [0, 1, 8, 16, 32, 64]
 
 
 class Refused(Exception):
-    """An error of the input. Its text is the text that the program prints."""
+    """An error in the input. Its text is the text that the program prints."""
 
 
 def number(data, at, size):
@@ -55,8 +55,8 @@ def first_frame(data, at, most):
 
 
 def unpacked(data, most=None):
-    """Returns the words that the complete groups of packed bytes unpack to. Also returns the offset of a truncated
-    group, or None. Raises an error if the groups unpack to more than `most` words."""
+    """Unpacks the complete groups of packed bytes, and returns the words. Also returns the offset of a truncated group,
+    or None. Raises an error if the groups have more than `most` words."""
     out, at = bytearray(), 0
     while at < len(data):
         tag, begun = data[at], at
@@ -110,8 +110,8 @@ def packed(data):
 # Traversals.
 
 
-# The limits that are numbers. A limit has three numbers: the share of random test runs that set this limit, its least
-# value and its greatest value.
+# The limits that are numbers. Each limit has three numbers: the share of random test runs that set it, its least value,
+# and its greatest value.
 LOW_LIMITS = {"budget": (0.3, 0, 30), "depth": (0.2, 1, 5), "message_words": (0.2, 1, 12)}
 
 
@@ -417,8 +417,8 @@ class Marked:
         return text
 
     def below(self, there, step):
-        """Returns the part with the number `step` directly below an object, or below a struct in a list. Returns None
-        if the object has no such part."""
+        """Returns the part with the number `step` directly below an object or below a struct of a list. Returns None if
+        there is no such part."""
         segment, at, row = there
         if row is None:
             word = self.walk.word(segment, at)
@@ -633,8 +633,8 @@ def listed(head, walk, segments, with_digest):
 
 
 def needed(greatest, found, tariff):
-    """Returns the lines of `limits`. They give the count of messages, and the greatest value of each statistic. For
-    each of these values, they also say which message has it."""
+    """Returns the lines of `limits`: the count of messages, the greatest value of each statistic, and for each of these
+    values the message that has it."""
     most = 2**28
     words, paid, deep = (greatest[name][0] for name in greatest)
     lines = [f"messages {found}"]
@@ -647,10 +647,9 @@ def needed(greatest, found, tariff):
 
 def run(task, data, form="stream", message_words=8388608, keep_going=False, with_digest=False, count=False,
         only_canonical=False, **limits):
-    """Returns three results of a command that takes a stream of any length: the output, the standard error, and the
-    exit status. `task` is the command: `list`, `limits`, `canonical`, `uniq` or `filter`. `with_digest` is an option of
-    `list`, `count` is an option of `uniq`, and `only_canonical` is an option of `filter`. `limits` are the limits of
-    the traversal."""
+    """Returns the output, the standard error and the exit status of a command that takes a stream of any length. `task`
+    is the command: `list`, `limits`, `canonical`, `uniq` or `filter`. `with_digest` is an option of `list`, `count` of
+    `uniq`, and `only_canonical` of `filter`. `limits` are the limits of the traversal."""
     found, fault = messages(data, form, message_words)
     out, passed, greatest = [], [], {"message-words": (0, 0), "budget": (0, 0), "depth": (0, 0)}
     kept = set()

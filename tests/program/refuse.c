@@ -1,5 +1,5 @@
-/* This library is preloaded into a program. It makes allocations of the program fail. The variables REFUSE_FROM and
- * REFUSE_TO have the numbers of the first and the last allocation that fail. For each failed allocation, the library
+/* This library is preloaded into a program. It makes some allocations of the program fail. The variables REFUSE_FROM
+ * and REFUSE_TO are the numbers of the first and the last failing allocation. For each failed allocation, the library
  * writes a byte to the file descriptor in REFUSE_TOLD. */
 #define _GNU_SOURCE
 #include <dlfcn.h>

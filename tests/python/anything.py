@@ -64,16 +64,16 @@ def data_of(found):
 
 
 def elements_of(found):
-    """Reads an object as a list of elements without size (`Void`), and returns its elements. Raises a Mismatch unless
-    the object is null, a list of elements without size, or a list of structs."""
+    """Reads an object as a `List(Void)`, and returns its elements. Raises a Mismatch unless the object is null, a list
+    of voids, or a list of structs."""
     if found.kind not in ("null", "void", "rows"):
         raise capn.Mismatch(f"there are no such elements, but {found!r}")
     return found.rows()
 
 
 def things(found):
-    """The test reads each pointer as several kinds of objects. For each kind, yields two functions: one reads the
-    object, and the other turns the result into numbers."""
+    """Yields two functions for each kind of object: one reads a pointer as this kind, and the other turns the result
+    into numbers."""
     yield found.struct, of_struct
     for bytes_of in text_of, data_of:
         yield lambda: bytes_of(found), lambda data: (len(data), *data)
@@ -85,8 +85,8 @@ def things(found):
 
 
 def parts(found, shown):
-    """Reads the object of a pointer as each kind of object. For each kind, yields a word of the output line. The word
-    is what `shown` makes of the object's numbers. If the object can't be read as this kind, the word is `-`."""
+    """Reads the object of a pointer as each kind of object. For each kind, yields what `shown` makes of the object's
+    numbers, or `-` if the object can't be read as this kind."""
     for call, numbers in things(found):
         try:
             answer = call()
@@ -97,7 +97,7 @@ def parts(found, shown):
 
 
 def pointers(found):
-    """Yields the object of each pointer. The order of the pointers is that of an index."""
+    """Yields the object of each pointer, in preorder."""
     left = [found]
     while left:
         found = left.pop()

@@ -43,8 +43,7 @@ MESSAGES = [
       line(32, (1, 1), "DATA", ROOT, cut=1, not_zero=0), line(40, (1, 2), "POINTER", ROOT),
       line(48, (1, 3), "POINTER", ROOT), line(56, (1, 4), "NULL", ROOT, cut=1, not_zero=0),
       line(64, (1, 5), "LIST", (1, 2), times=2)]),
-    # A list of two structs. The word of the second struct is also a list of u32. The list of structs has one word more
-    # than its structs.
+    # A list of two structs, and one more word of this list behind them. A list of u32 overlaps the second struct.
     ("0000000000000200" "050000001f000000" "0900000014000000" "0800000001000000" "0700000000000000" "0900000000000000"
      "ffffffffffffffff", "bare",
      [line(0, ROOT, "POINTER", None), line(8, (0, 1), "POINTER", ROOT), line(16, (0, 2), "POINTER", ROOT),
@@ -61,8 +60,7 @@ MESSAGES = [
 
 
 class Slots(annotated.Cover):
-    """A `Cover` with one more dictionary. A key is the number of a visit, and its value is the place of the pointer
-    that this visit follows."""
+    """A `Cover` with the dictionary `slots`. It has the place of the pointer that each visit follows."""
 
     def __init__(self, segments):
         self.slots = {}
@@ -74,7 +72,7 @@ class Slots(annotated.Cover):
 
 
 def wanted(segments, begin):
-    """Returns the lines that `capn.annotate` has to return for a valid message. They are made from the lines of the
+    """Returns the lines that `capn.annotate` has to return for a valid message. They are computed from the lines of the
     Python model. `begin` is the offset of the first segment."""
     cover, found = Slots(segments), []
     for one in annotated.Notes(segments, begin).lines:

@@ -171,8 +171,8 @@ def long():
 
 
 def shown(data, form, limits):
-    """Replaces the function that takes the bytes for `capn.show`, and then calls `capn.show`. With the replacement,
-    `capn.show` reads the bytes in place instead of copying them."""
+    """Calls `capn.show`, but replaces one function of the package: `capn.show` then reads the bytes in place instead of
+    copying them."""
     with unittest.mock.patch.object(capn._show, "_taken", lambda data, form, limits, _: capn._calls._taken(
             data, form, limits, True)):
         return capn.show(data, form, limits)

@@ -1,5 +1,5 @@
-"""Tests the place that an error reports, and the first difference from the canonical form. Compares both with a second
-implementation in Python, with the stored results of the program, and with the program itself if it is built."""
+"""Tests the place of an error, and the first difference of a message from its canonical form. Compares each with a
+second implementation in Python, with the stored results of the program, and with the program itself if it is built."""
 import dataclasses
 import random
 import re
@@ -158,7 +158,7 @@ class AsExplained(unittest.TestCase):
                     ways.add(refusal.way)
                     if refused.name == "TooManyWords":
                         # If the segments come from an iterator, a call adds up their words, and stops as soon as the
-                        # sum exceeds the limit. So it may report fewer words than all segments have together.
+                        # sum exceeds the limit. So the error may report fewer words than all segments have together.
                         self.assertEqual(of_iterator.name, refused.name)
                         self.assertTrue(limits.message_words < of_iterator.at <= refused.at)
                     else:
@@ -210,8 +210,8 @@ class AsExplained(unittest.TestCase):
                     name, bound = limit_of(option, value)
                     bounds[name] = bound
             told = said(bytes.fromhex(answer.split(", ")[1].replace("-", "")))
-            # Some errors are explained only by the program. They are errors in a segment table, in packed bytes, in a
-            # length, or in the number of messages. Leaves out test cases with such an error.
+            # Leaves out test cases with an error that only the program explains: an error in a segment table, in packed
+            # bytes, in a length, or in the number of messages.
             if "accepted" not in told and "way" not in told:
                 continue
             with self.subTest(case=case):

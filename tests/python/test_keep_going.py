@@ -26,8 +26,7 @@ def told(found):
 
 
 def ways(data, packed):
-    """Yields several functions. Each of them makes a reader with `keep_going`, over another kind of file with the given
-    bytes."""
+    """Yields functions. Each makes a reader with `keep_going` that reads the given bytes from another kind of file."""
     for ahead in False, True:
         for file in data, io.BytesIO(data), io.BufferedReader(io.BytesIO(data), 16), Pieces(data, 7):
             yield lambda f=file, a=ahead: capn.messages(f, packed, read_ahead=a, keep_going=True)

@@ -73,8 +73,8 @@ class Threads(unittest.TestCase):
                 self.assertTrue(any(self.runs_beside(call) for _ in range(50)))
 
     def looks(self, message):
-        """Checks a message, which has to be rejected. The exception has a function that searches the message for the
-        path of the error. Returns this function."""
+        """Checks a message, which has to be rejected. Returns a function that searches the message for the path of the
+        error."""
         with self.assertRaises(capn.Refusal) as caught:
             capn.check(message)
         return caught.exception._look

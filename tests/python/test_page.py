@@ -64,7 +64,7 @@ class Page(unittest.TestCase):
         with tempfile.TemporaryDirectory() as folder:
             (Path(folder) / "message").write_bytes(message)
             (Path(folder) / "messages").write_bytes(message)
-            # The options of Python turn each deprecation warning into an error.
+            # Python runs with options that turn each deprecation warning into an error.
             ran = subprocess.run([sys.executable, "-B", "-W", "error::DeprecationWarning", "-c", f"{code}\n{more}"],
                                  cwd=folder, capture_output=True, check=False, text=True)
         return ran.returncode, ran.stdout + ran.stderr

@@ -1,5 +1,5 @@
-"""Tests that the calls return the same results and errors as the program, and that both read the messages of the
-reference implementation in the same way.
+"""Tests that the calls of the Python package return the same results and errors as the program `capn`. Also tests this
+on messages of the reference implementation.
 
 The program is the one that CAPN names, or the one that `make program` builds. Without a program, all tests are skipped.
 """
@@ -71,7 +71,7 @@ class Program(unittest.TestCase):
 
 @unittest.skipUnless(PROGRAM, "there is no program")
 class OfTheComparisons(unittest.TestCase):
-    """Tests the messages for which other tests compare the program with the reference implementation."""
+    """Tests the messages that other tests use to compare the program with the reference implementation."""
 
     def test_a_thousand_messages(self):
         source = random.Random(46)

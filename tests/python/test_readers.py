@@ -21,8 +21,8 @@ class Answering:
 
 
 def ways(begun, wrong):
-    """Yields readers over a file whose `read` returns `wrong`. If `begun` is true, `read` returns the first bytes of a
-    message before that."""
+    """Yields readers over a file whose `read` returns `wrong`. If `begun` is true, an earlier `read` returns the first
+    bytes of a message."""
     for packed in False, True:
         sent = capn.pack(SMALL) if packed else SMALL
         for ahead in False, True:
@@ -96,8 +96,8 @@ class Growth(unittest.TestCase):
         for packed in False, True:
             for ahead in False, True:
                 short, long = seconds(1 << 20, packed, ahead), seconds(1 << 23, packed, ahead)
-                # Eight times as many bytes take about eight times as long. If the work were quadratic, they would take
-                # sixty-four times as long.
+                # Eight times as many bytes may take about eight times as long. Quadratic work would take sixty-four
+                # times as long.
                 self.assertLess(long, 24 * short + 0.5)
 
 

@@ -19,8 +19,8 @@ def limit_of(option, value):
 
 
 def ran(words, data):
-    """Calls the package in order to do what the command `show` does. Returns the output, the line on standard error,
-    and the exit status."""
+    """Does with the package what the command `show` does. Returns the output, the line on standard error, and the exit
+    status."""
     form, options, bounds, words, is_one = "stream", {}, {}, list(words), False
     while words:
         word = words.pop(0)

@@ -32,8 +32,8 @@ class Interrupted(Exception):
 
 
 def after(count):
-    """Sets a profile function that counts the calls inside the package. When the count is `count`, the profile function
-    raises an exception."""
+    """Sets a profile function that counts the calls inside the package. At the call with the number `count`, the
+    profile function raises an exception."""
 
     def watch(frame, event, _):
         nonlocal count
@@ -62,11 +62,11 @@ def taken(found):
 
 
 class EachCall(unittest.TestCase):
-    """Reads each stream many times. Each time, an exception interrupts one of the calls inside the package, and each
-    time it is a later call."""
+    """Reads each stream many times. In each run, an exception interrupts another call inside the package: a later one
+    than in the run before."""
 
     def files(self, data, folder):
-        """Yields several functions. Each of them makes another kind of file with the given bytes."""
+        """Yields functions that make files with the given bytes. Each function makes another kind of file."""
         path = os.path.join(folder, "file")
         with open(path, "wb") as file:
             file.write(data)

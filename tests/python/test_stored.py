@@ -34,8 +34,8 @@ def digits(data):
 
 
 def hashed(data, form):
-    """Calls the package in order to do what `capn hash` does. Returns the exit status, the output and the error as one
-    text. The output has a line for each message before the first rejected one."""
+    """Does with the package what `capn hash` does. Returns the exit status, the output and the error as one text. The
+    output has a line for each message before the first rejected one."""
     lines = ""
     try:
         for message in (parted(data) if form == "stream" else [data]):
@@ -46,7 +46,7 @@ def hashed(data, form):
 
 
 def parted(data):
-    """Splits a stream, and yields its messages. The last item is the rest of the stream. This rest need not be a
+    """Splits a stream, and yields its messages. The last item is the rest of the stream, which need not be a
     message."""
     while data:
         end = len(data)

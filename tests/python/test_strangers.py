@@ -124,10 +124,9 @@ class Schemas(unittest.TestCase):
         self.assertGreater(min(answered, raised), 50)
 
     def test_lists_of_other_schemas(self):
-        # Each value is read in three ways: as a list of structs, as a list of 16-bit numbers, and as a list of
-        # pointers. For the list of structs, the expected result has the first number of each struct and the kind of its
-        # first pointer. For the other two lists, it has the numbers, and the kinds of the pointers. None means that an
-        # error is expected.
+        # Reads each value as a list of structs, as a list of 16-bit numbers, and as a list of pointers. For the list of
+        # structs, the expected result has the first number of each struct, and the kind of the struct's first pointer.
+        # For the list of pointers, it has their kinds. None stands for an error.
         two = (0x10003).to_bytes(8, "little")
         for value, rows, numbers, pointers in (
             (None, [], [], []),
@@ -237,7 +236,7 @@ class Schemas(unittest.TestCase):
                 self.assertRaises(capn.Mismatch, wrong)
 
     def test_texts_and_data(self):
-        # An exception that the sender causes is always a `Mismatch`, though its class may also have other base classes.
+        # An exception that the sender causes is always a `Mismatch`. Its class may also have other base classes.
         values = [None, ("struct", [1], [None]), ("list", 0, 3, b""), ("list", 1, 3, bytes(8)), text("abc"),
                   ("list", 3, 1, bytes(8)), ("pointers", [None]), ("rows", 1, 1, [([5], [None])]),
                   ("list", 2, 3, b"abc" + bytes(5)), ("list", 2, 0, b""), ("list", 2, 3, b"\xff\xfe\0" + bytes(5))]

@@ -500,8 +500,7 @@ class AfterAnException(unittest.TestCase):
         try:
             for file, other, packed, sent in self.pipes():
                 if isinstance(file, io.BufferedReader):
-                    # Leaves out buffered files, because a `BufferedReader` loses bytes that it has read if an exception
-                    # is raised.
+                    # Leaves out buffered files: after an exception, a `BufferedReader` loses bytes that it has read.
                     continue
                 found = capn.messages(file, packed=packed)
                 for message in SHAPES[:3] * 2:
@@ -798,8 +797,8 @@ class Splitters(unittest.TestCase):
         refusals = []
 
         def once(call):
-            """Returns a function that makes the given call and returns its status. There is one exception: when the
-            call succeeds for the first time, the function returns the status for out of memory."""
+            """Returns a function that makes the given call and returns the call's status. When the call succeeds for
+            the first time, the function returns the status for out of memory instead."""
             def little(*words):
                 status = call(*words)
                 if status == 0 and not refusals:
@@ -812,9 +811,9 @@ class Splitters(unittest.TestCase):
             return little
 
         def once_of_one(call):
-            """Returns a function that makes the given call. This call looks at one message, and returns a number of
-            bytes. When the call succeeds for the first time, the function returns 0 instead, and sets the status for
-            out of memory."""
+            """Returns a function that makes the given call, which looks at one message and returns a number of bytes.
+            When the call succeeds for the first time, the function returns 0 instead, and sets the status for out of
+            memory."""
             def little(text, size, one):
                 taken = call(text, size, one)
                 if taken and not refusals:

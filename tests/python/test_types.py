@@ -13,7 +13,7 @@ import capn
 from test_page import programs
 
 SITE = Path(capn.__file__).resolve().parents[1]
-# A program for mypy. It uses each kind of object in a right way. It also has errors that mypy must find.
+# A program for mypy. It uses each kind of object correctly. It also has errors that mypy must find.
 KINDS = """
 import capn
 from typing import assert_type

@@ -10,7 +10,7 @@ from messages import stream
 from test_reading import archives, generated, model
 
 EMPTY = stream(b"")
-# The packed bytes of 256 zero words. As a stream, each zero word is a message without words.
+# The packed bytes of 256 zero words. In a stream, each of these zero words is a message without words.
 MANY = b"\x00\xff"
 MIB = 1 << 20
 
@@ -91,8 +91,7 @@ class Splitters(unittest.TestCase):
         self.assertLess(took, 16 * MIB)
 
     def test_as_many_as_were_fed_come_at_once(self):
-        # These packed bytes unpack to about as many bytes as an ordinary packed stream does. So one call returns all
-        # messages in them.
+        # These packed bytes don't unpack to very many bytes, so one call returns all messages in them.
         source = random.Random(5)
         parts = [stream(source.randbytes(8 * source.randint(0, 40))) for _ in range(60_000)]
         splitter = capn.Splitter("packed")

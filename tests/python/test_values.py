@@ -34,8 +34,7 @@ def text(written):
 
 
 def capability(number):
-    """Returns the capability in a message. The root of the message is a struct whose only pointer is this
-    capability."""
+    """Returns the capability of a message, which is the only pointer of the root struct."""
     return capn.read(struct.pack("<2Q", 1 << 48, 3 | number << 32), "bare").root.slots[0]
 
 
@@ -213,7 +212,7 @@ class Objects(unittest.TestCase):
             (lambda i: rows_of[i].words[0], lambda i: root.slots[0][i].words[0]),
             (lambda i: items[i][0], lambda i: root.slots[1][i][0]),
         ]:
-            # The package makes the list of the 3,000 offsets once, and not at each access. Otherwise the loop would
+            # The package makes the list of the 3,000 offsets only once. If each access made it again, the loop would
             # take over 100 times as long.
             self.assertLess(seconds(again), 20 * seconds(held) + 0.05)
         self.assertEqual([root.slots[0][i].words[0] for i in range(3000)], list(range(3000)))
@@ -403,8 +402,8 @@ class HowMany(unittest.TestCase):
         self.assertRaises(TypeError, capn.read, data, most_slots=1.0)
 
     def test_few_bytes_have_many_slots(self):
-        # The message has three lists of 193 pointers each. Each pointer of the first two lists refers to the next list.
-        # The traversal visits a list once for each pointer to it.
+        # The message has three lists of 193 pointers each. Each pointer of the first list refers to the second list,
+        # and each pointer of the second list to the third. The traversal visits a list once for each pointer to it.
         count, words = 193, [1 | 6 << 32 | 193 << 35]
         for _ in range(2):
             words += [count - 1 - i << 2 | 1 | 6 << 32 | count << 35 for i in range(count)]

@@ -30,9 +30,9 @@ class Refusals(unittest.TestCase):
                     self.assertEqual(stop_of(refusal), ((1,), byte))
                 self.assertEqual(stop_of(refusal_of(capn.show, kind(data), form)), ((1,), byte))
         self.assertEqual(stop_of(refusal_of(capn.is_canonical_words, BARE)), ((1,), 24))
-        # Each case has the path and the byte of the error. If the error is at the root pointer, the path is empty. If
-        # the message has no root, the path is empty and the byte is None. If a far pointer leads to the error, the
-        # place is that of the far pointer, and not that of its landing pad.
+        # The next messages test the path and the byte of an error. The path is empty if the error is at the root
+        # pointer. The byte is None if the message has no root. If the error comes after a far pointer, the path and the
+        # byte are those of the far pointer, and not those of its landing pad.
         self.assertEqual(stop_of(refusal_of(capn.check, stream(bytes(4) + b"\1" + bytes(3)))), ((), 8))
         self.assertEqual(stop_of(refusal_of(capn.check, far(BARE))), ((1,), 48))
         self.assertEqual(stop_of(refusal_of(capn.check, far(b""))), ((), 16))

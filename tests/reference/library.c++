@@ -1,9 +1,9 @@
-// Writes what the reference implementation's library returns for the message on standard input. The message may have
-// any root. (The implementation's command line tool takes only structs as roots.) The first argument is one of these:
+// Writes what the reference implementation's library returns for the message on standard input. The first argument is
 // `canonical` for the first message of a stream, `canonical-packed` for a packed message, `is-canonical` for the words
-// of one segment, or `pack` for the packed bytes of one message. The traversal limit in words and the nesting limit may
-// follow. Without them, the library uses its default limits. If the library rejects the message, the program prints the
-// reason and ends with status 1.
+// of one segment, or `pack` for the packed bytes of one message.
+//
+// After the first argument, the traversal limit in words and the nesting limit may follow. If the library rejects the
+// message, the program prints the reason and ends with status 1.
 #include <capnp/any.h>
 #include <capnp/message.h>
 #include <capnp/serialize-packed.h>
@@ -31,8 +31,7 @@ static void canonicalOfPacked(capnp::ReaderOptions options) {
   canonical(in);
 }
 
-// Packs the segments of the input in the way in which the library packs a message. The segment table of the input has
-// to be valid.
+// Packs the segments of the input as the library packs a message. The segment table of the input has to be valid.
 static void pack() {
   auto bytes = kj::FdInputStream(STDIN_FILENO).readAllBytes();
   auto words = kj::heapArray<capnp::word>(bytes.size() / sizeof(capnp::word));

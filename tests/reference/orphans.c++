@@ -1,8 +1,9 @@
-// Writes messages with builders of the reference implementation. Some messages have orphans. `orphans SEED COUNT`
-// writes a stream of messages to standard output. The stream is the same in every run. For each message, the program
-// writes a line to standard error: the number of its orphans, and the number of words that these orphans use. To count
-// these words, the program drops the orphans after it has written the message. The library then sets their words to
-// zero.
+// Writes messages with builders of the reference implementation. `orphans SEED COUNT` writes the same stream in every
+// run. For each message, it also writes a line to standard error: the number of orphans, and the number of words that
+// the orphans use.
+//
+// To count the words of the orphans, the program drops the orphans after it has written the message. The library then
+// sets their words to zero.
 //
 // The builders make all changes that move objects or leave gaps. They drop objects, overwrite them, take them out and
 // put them back, truncate and extend lists, and make structs larger, as a newer schema does.
@@ -25,7 +26,7 @@ static uint64_t number() { return below(3) ? source() : 0; }
 
 // The orphans of a message. They live until the message is written.
 static std::vector<capnp::Orphan<capnp::AnyPointer>> orphans;
-// Says whether the orphans of the current message are kept until the message is written.
+// Is true if the orphans of the current message are kept until the message is written.
 static bool keepsOrphans;
 
 static void make(capnp::AnyPointer::Builder to, unsigned depth);

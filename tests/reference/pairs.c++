@@ -1,9 +1,9 @@
-// Writes pairs of messages with builders of the reference implementation. `pairs SEED COUNT` writes the pairs as a
-// stream, which is the same in every run. In a pair with an even number, the two messages have one value in two
-// layouts. In a pair with an odd number, the values of the two messages differ in one place. Two layouts differ in the
-// sizes of structs, as between an older and a newer schema. Structs in lists differ in this way, too. Two layouts also
-// differ in the order of objects, in the sizes of segments, in the far pointers, and in the gaps where an object was
-// moved or dropped.
+// Writes pairs of messages with builders of the reference implementation. `pairs SEED COUNT` writes the same stream in
+// every run. In a pair with an even number, both messages have the same value in different layouts. In a pair with an
+// odd number, the values of the messages differ in one place.
+//
+// Layouts differ in the sizes of structs, the order of objects, the sizes of segments, the far pointers, and the gaps
+// where an object was moved or dropped.
 #include <capnp/any.h>
 #include <capnp/message.h>
 #include <capnp/orphan.h>
@@ -57,7 +57,8 @@ static Value valueOf(Kind kind, unsigned depth) {
   return made;
 }
 
-// Collects a value and all values inside it. For each of them, `all` also says whether it is a struct in a list.
+// Collects a value and all values inside it in `all`. With each value, `all` has whether the value is a struct in a
+// list.
 static void collect(Value& value, bool isRow, std::vector<std::pair<Value*, bool>>& all) {
   all.push_back({&value, isRow});
   for (auto& part : value.parts) collect(part, value.kind == ROWS, all);
@@ -93,11 +94,11 @@ static void change(Value& value, bool isRow) {
   }
 }
 
-// Writes values into a message, each time in another layout.
+// Writes a value into a message, in a random layout.
 class Layout {
 public:
-  // `spare` is the greatest number of words and of pointers that a struct may have beyond what its value needs. With 0,
-  // no struct has more than it needs, no gap is made, and no object is moved.
+  // A struct may have up to `spare` words and `spare` pointers more than its value needs. With 0, no gap is made, and
+  // no object is moved.
   explicit Layout(unsigned spare) : spare(spare) {}
 
   void put(const Value& value, capnp::AnyPointer::Builder to) {
@@ -119,8 +120,7 @@ public:
       case ROWS: putRows(value, to); break;
     }
     if (spare > 0 && below(6) == 0) {
-      // Detaches the object from its pointer. Makes another object, and drops this other object. Then attaches the
-      // first object to the pointer again.
+      // Detaches the object from its pointer, makes and drops another object, and attaches the detached object again.
       auto moved = to.disown();
       waste(to);
       to.adopt(kj::mv(moved));

@@ -1,6 +1,6 @@
-// Writes where the reference implementation finds the objects of each message of a stream. There is a line for each
-// pointer, in preorder. A line has the offset of the object from the beginning of the message's segment table. For a
-// message that the implementation rejects, there is only one line. The program reads standard input.
+// Writes where the reference implementation finds the objects of each message of a stream. Prints a line for each
+// pointer, in preorder. The line has the object's offset from the beginning of the message's segment table. If the
+// implementation rejects a message, there is only one line for it.
 
 #include <capnp/any.h>
 #include <capnp/serialize.h>
@@ -102,7 +102,7 @@ void message(const std::vector<unsigned char>& bytes) {
 
 }  // namespace
 
-// Before each message comes its length in bytes. The length is a number of four bytes, the least significant byte
+// The length of a message in bytes comes before the message. It is a number of four bytes, the least significant byte
 // first.
 int main() {
   unsigned char head[4];

@@ -1,7 +1,6 @@
-/* Compares pairs of messages with the C library. Two consecutive messages on standard input are a pair. For each pair
- * the program compares the canonical bytes of the two messages. It also calls capn_same on the two messages: as streams
- * in each order, packed, and in canonical form without a table. It prints a line for each pair. If all results agree,
- * the line is `same` or `different`. Otherwise the line says which result is wrong. */
+/* Compares pairs of messages with the C library. Two consecutive messages on standard input are a pair. Prints `same`
+ * or `different` if the canonical bytes agree with all results of capn_same, and otherwise which result is wrong.
+ * capn_same is called on the two messages as streams in each order, packed, and in canonical form without a table. */
 #include "capn.h"
 
 #include <stdint.h>

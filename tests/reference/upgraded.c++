@@ -1,7 +1,6 @@
-// Reads the message on standard input with the reference implementation's library. The program reads with an old
-// schema, which has a list of numbers where a newer schema has structs. It prints the first pointer of the root as a
-// `List(UInt16)`, with its numbers on one line. If the library rejects the message, the program prints the reason and
-// ends with status 1.
+// Reads the message on standard input with the reference implementation's library. The schema of the program is old: it
+// has a list of numbers where a newer schema has structs. The program prints the numbers of this list as a
+// `List(UInt16)`. If the library rejects the message, the program prints the reason and ends with status 1.
 #include <capnp/any.h>
 #include <capnp/serialize.h>
 #include <stdio.h>
