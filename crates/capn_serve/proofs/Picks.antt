@@ -1,64 +1,26 @@
 -- Lemmas for `run_only`: the run of the service `Picker` is a run that picks messages.
-use Rattle.std.proofs.Common.{◌≡◌, ◌⊎◌, inl, inr, ℕ, ◌+◌, ◌<◌, ◌≤◌, List, [], ◌∷◌, ◌++◌, Bool, true, false, Option}
-use Rattle.std.proofs.Common.{None, Some, IfSome, Result, Ok, Err, if◌then◌else◌, refl, ap, sym, subst, ◌∙◌, append-nil}
-use Rattle.capn_canon.specs.declared.form.Form.{Form}
-use Rattle.capn_canon.specs.declared.form.Form.TheVariants as inputs
+use Rattle.std.proofs.Common.{◌≡◌, inl, inr, ℕ, ◌+◌, ◌<◌, ◌≤◌, List, [], ◌∷◌, Bool, true, false, Option}
+use Rattle.std.proofs.Common.{None, Some, IfSome, Ok, Err, if◌then◌else◌, refl, ap, sym, subst, ◌∙◌}
 use Rattle.capn_serve.specs.declared.fault.RunFault.{RunFault}
-use Rattle.capn_serve.specs.declared.fault.RunFault.TheVariants as faults
 use Rattle.capn_serve.specs.declared.pick.Range.{Range}
 use Rattle.capn_serve.specs.declared.pick.StreamForm.{StreamForm}
 use Rattle.capn_serve.specs.declared.pick.StreamForm.TheVariants as forms
 use Rattle.capn_serve.specs.declared.picker.Picker.{Picker}
 use Rattle.capn_serve.specs.declared.position.Position.{Position}
 use Rattle.capn_serve.specs.declared.service.Run.{Run}
-use Rattle.capn_serve.specs.Finish as ended
-use Rattle.capn_serve.specs.Finish.{EndsForMemory, Finished, HasBegunLast, HasLast, last_result, last_text}
 use Rattle.capn_serve.specs.Fold.{AreParts, AreServed, Fold, IsFolded, Part, fold_until}
-use Rattle.capn_serve.specs.FormRun as runs
-use Rattle.capn_serve.specs.FormRun.{AreMessages, MayNeedMemory, form_of}
+use Rattle.capn_serve.specs.FormRun.{AreMessages, MessagesEnd, ServesMessages, form_of}
 use Rattle.capn_serve.specs.Pick.{AreAscending, IsEnough, IsTooFew, Picking, last_of, pick_fold}
 use Rattle.capn_serve.specs.PickRun.{EndsAs, HasWritten, HasWrittenAll, IsPicked, IsPickedOf, IsShort, KeepsUp}
 use Rattle.capn_serve.specs.PickRun.{PicksRanges, most_taken}
 use Rattle.capn_serve.specs.StreamRun as streams
 use Rattle.capn_serve.specs.StreamRun.{IsAhead, IsNeeded, first_run}
 use Rattle.capn_serve.specs.PackedRun as packings
-use Rattle.capn_serve.specs.WhatCame.{Came}
-use Rattle.capn_serve.specs.inner.Picker.{done, picker_finish, refuses, serves}
+use Rattle.capn_serve.specs.inner.Picker.{done, refuses, serves}
 use Rattle.capn_serve.proofs.PackedMore.{begins_all}
 use Rattle.capn_serve.proofs.Ranges.{Follows, first_decides, follows_first, follows_next, none_left, some_left}
-use Rattle.capn_serve.proofs.shared.Finishes.{IsFaithful}
+use Rattle.capn_serve.proofs.shared.Finishes.{Ending, stopped}
 use Rattle.capn_serve.proofs.shared.Until.{ends_open, going_of, is_done, known}
-
-abbrev Ending : Type 0
-Ending = Result (Unit {0}) RunFault
-
--- ---- the end of a run
-
-no_last : (ending : Ending) (y : Run Picker) (came : Came) → last_text picker_finish ending y came ≡ []
-no_last (Ok u) y came = refl
-no_last (Err (faults.Refused at r)) y came = refl
-no_last (Err faults.Memory) y came = refl
-no_last (Err faults.Io) y came = refl
-no_last (Err faults.InputTooLong) y came = refl
-
-alone : (text : List ℕ) (ending : Ending) (y : Run Picker) (came : Came)
-    → text ++ last_text picker_finish ending y came ≡ text
-alone text ending y came = ap (λ (l : List ℕ). text ++ l) (no_last ending y came) ∙ append-nil text
-
-as_served : (ending : Ending) (y : Run Picker) → last_result picker_finish ending y ≡ ending
-as_served (Ok u) y = refl
-as_served (Err fault) y = refl
-
-pub faithful : (words : ℕ) (p : Picker)
-    → IsFaithful (fold_until serves refuses done words) (first_run p) picker_finish
-faithful words p = record {
-  memory = λ y. refl;
-  io = λ y. refl;
-  of_memory = λ y e is. is;
-  of_io = λ y e is. is;
-  not_io = λ y is. absurd (cc);
-  left = λ z y frame message r h. absurd h;
-}
 
 ahead_as : (P Q : List ℕ → Option (List ℕ) → Option (List ℕ) → Type 0)
     → ((bytes : List ℕ) (c d : Option (List ℕ)) → P bytes c d → Q bytes c d) → (bytes : List ℕ) (c d : Option (List ℕ))
@@ -278,39 +240,23 @@ module _ (most : ℕ) (ranges : List Range) (p : Picker) (same : p.rest.now ≡ 
     picked_by forms.Stream input text ending y are = due_stream _ text _ ending y are
     picked_by forms.Packed input text ending y are = due_packed _ text _ ending y are
 
-    exact_by : (form : StreamForm) (a c d : Option (List ℕ)) (r : Ending)
-        → IfSome a (ended.EndsAs until x picker_finish (form_of form) c d r) → IfSome a (EndsAs most ranges form c d r)
-    exact_by form None c d r is = tt
-    exact_by form (Some input) c d r (inl memory) = inl memory
-    exact_by form (Some input) c d r (inr (inl io)) = inr (inl io)
-    exact_by form (Some input) c d r (inr (inr (text, (first, ending, y, came, are, tells, joined, is), wrote))) =
-        let here = subst (λ (t : List ℕ). IsPicked most ranges form input t ending) (sym (joined ∙ alone first ending y
-        came)) (picked_by form input first ending y are) in
-        inr (inr (text, subst (IsPicked most ranges form input text) (sym (is ∙ as_served ending y)) here, wrote))
+    exact_by : (form : StreamForm) (a c d : Option (List ℕ)) (r : Ending) (y : Run Picker)
+        → IfSome a (MessagesEnd until x (form_of form) c d r y) → IfSome a (EndsAs most ranges form c d r)
+    exact_by form None c d r y is = tt
+    exact_by form (Some input) c d (Ok u) y (text, are, wrote) =
+        inr (inr (text, picked_by form input text (Ok tt) y are, wrote))
+    exact_by form (Some input) c d (Err e) y (inl memory) = inl (ap stopped memory)
+    exact_by form (Some input) c d (Err e) y (inr (inl io)) = inr (inl (ap stopped io))
+    exact_by form (Some input) c d (Err e) y (inr (inr (text, z, are, wrote, leaves))) =
+        inr (inr (text, picked_by form input text (stopped e) z are, wrote))
 
     -- ---- the whole run
 
-    none_begun : (form : Form) (a c d : Option (List ℕ)) → HasBegunLast until x picker_finish form a c d → ⊥
-    none_begun form a c d (first, ending, y, came, (are, some), wrote) = some (no_last ending y came)
-
-    no_memory : (form : Form) (a b : Option (List ℕ))
-        → MayNeedMemory form a b ⊎ (HasLast until x picker_finish form a ⊎ EndsForMemory until x picker_finish form a)
-        → MayNeedMemory form a b
-    no_memory form a b (inl may) = may
-    no_memory form a b (inr (inl (first, ending, y, came, (are, some)))) = absurd (some (no_last ending y came))
-    no_memory form a b (inr (inr (y, are, is))) = absurd (cc)
-
-    written_messages : (form : Form) (bytes : List ℕ) (a c d : Option (List ℕ))
-        → runs.HasWritten until x form bytes c d ⊎ HasBegunLast until x picker_finish form a c d
-        → runs.HasWritten until x form bytes c d
-    written_messages form bytes a c d (inl wrote) = wrote
-    written_messages form bytes a c d (inr begun) = absurd (none_begun form a c d begun)
-
-    pub picks : (form : StreamForm) (a b c d : Option (List ℕ)) (reader writer : Bool) (r : Ending)
-        → Finished until x picker_finish (form_of form) a b c d reader writer r
+    pub picks : (form : StreamForm) (a b c d : Option (List ℕ)) (reader writer : Bool) (r : Ending) (y : Run Picker)
+        → ServesMessages until x (form_of form) a b c d reader writer r y
         → PicksRanges most ranges form a b c d reader writer r
-    picks forms.Stream a b c d reader writer r run = record {
-      exact = exact_by forms.Stream a c d r run.exact;
+    picks forms.Stream a b c d reader writer r y run = record {
+      exact = exact_by forms.Stream a c d r y run.exact;
       io = run.io;
       begun = record {
         bytes = run.begun.bytes;
@@ -319,14 +265,13 @@ module _ (most : ℕ) (ranges : List Range) (p : Picker) (same : p.rest.now ≡ 
         ahead = ahead_as (streams.HasWrittenAll until x most_taken) (HasWrittenAll most ranges forms.Stream) all_stream
             run.begun.bytes c d run.begun.bounded.1;
         needed = needed_stream run.begun.bytes run.begun.needed;
-        written = written_stream run.begun.bytes c d
-            (written_messages inputs.Stream run.begun.bytes a c d run.begun.written);
+        written = written_stream run.begun.bytes c d run.begun.written;
       };
       heard = λ h. keeps_stream a b c d (run.heard h);
-      memory = λ h. no_memory inputs.Stream a b (run.memory h);
+      memory = run.memory;
     }
-    picks forms.Packed a b c d reader writer r run = record {
-      exact = exact_by forms.Packed a c d r run.exact;
+    picks forms.Packed a b c d reader writer r y run = record {
+      exact = exact_by forms.Packed a c d r y run.exact;
       io = run.io;
       begun = record {
         bytes = run.begun.bytes;
@@ -335,9 +280,8 @@ module _ (most : ℕ) (ranges : List Range) (p : Picker) (same : p.rest.now ≡ 
         ahead = ahead_as (packings.HasWrittenAllPacked until x most_taken) (HasWrittenAll most ranges forms.Packed)
             all_packed run.begun.bytes c d run.begun.bounded.1;
         needed = needed_packed run.begun.bytes run.begun.needed;
-        written = written_packed run.begun.bytes c d
-            (written_messages inputs.Packed run.begun.bytes a c d run.begun.written);
+        written = written_packed run.begun.bytes c d run.begun.written;
       };
       heard = λ h. keeps_packed a b c d (run.heard h);
-      memory = λ h. no_memory inputs.Packed a b (run.memory h);
+      memory = run.memory;
     }

@@ -8,4 +8,5 @@ pub mod Until
 pub mod AfterMessages
 pub mod Wrote
 pub mod Finishes
+pub mod PlainEnds
 pub mod SkipFaults

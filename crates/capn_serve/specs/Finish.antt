@@ -43,6 +43,19 @@ no_closing s at = []
 abbrev pub nothing_told : {S : Type 0} → S → Position → Refusal → Came → List ℕ
 nothing_told s at r came = []
 
+-- The `outcome` of a service whose runs find nothing: `Ok`.
+abbrev pub nothing_found : {S : Type 0} → S → Position → Result (Unit {0}) RunFault
+nothing_found s at = Ok tt
+
+-- The `stops` of a service whose runs end with the fault of the loop itself.
+abbrev pub same_fault : {S : Type 0} → S → Position → RunFault → RunFault
+same_fault s at fault = fault
+
+-- The end of the runs of a service that adds nothing to the loop: no text after the messages, and the result of the
+-- loop as the result of the run.
+abbrev pub plain_finish : {S : Type 0} → Finish (Run S) (Unit {0}) RunFault
+plain_finish = finish_of no_closing nothing_told nothing_found same_fault
+
 -- After `Ok`, `text` was written. After a fault, `text` is not empty: after `Memory` nothing was written, and after
 -- `Io` the writer failed within `text`. `failed` says whether the writer has failed.
 abbrev pub PutsText : List ℕ → Option (List ℕ) → Option (List ℕ) → Bool → Result (Unit {0}) RunFault → Type 0

@@ -3,7 +3,8 @@
 //! A [`Service`] is a fold over messages, and is itself the state of that fold. A [`Run`] is a service with the
 //! position of the next message. [`run_stream`], [`run_packed`] and [`run_bare`] are the loops over the three forms.
 //! [`serve_form`] runs the loop for a given form. A loop reads no further once the service is finished.
-//! [`serve_form_with`] also stores the bytes of an unfinished message in a [`Begun`].
+//! [`serve_form_with`] also stores the bytes of an unfinished message in a [`Begun`]. [`run_messages`] carries out the
+//! complete run of a service that has a [`Finish`].
 //!
 //! [`run_only`] and [`run_pick`] write the frames of chosen messages byte for byte, and end after the last chosen
 //! message.

@@ -86,8 +86,7 @@ impl<'r> Service for Picker<'r> {
 }
 
 impl<'r> Finish for Picker<'r> {
-    ghost use Rattle.capn_serve.specs.Finish.{no_closing, nothing_told};
-    ghost use Rattle.capn_serve.specs.inner.Picker as spec;
+    ghost use Rattle.capn_serve.specs.Finish.{no_closing, nothing_found, nothing_told, same_fault};
 
     type Found = ();
 
@@ -97,9 +96,9 @@ impl<'r> Finish for Picker<'r> {
 
     ghost told = { nothing_told };
 
-    ghost outcome = { spec.outcome };
+    ghost outcome = { nothing_found };
 
-    ghost stops = { spec.stops };
+    ghost stops = { same_fault };
 
     fn write_closing<W: Write, A: Allocator + Copy>(
         &self,

@@ -38,7 +38,7 @@ read_so_far f x forms.Packed bytes more c m d (bound, ahead) wrote =
     (bound, ahead_more (HasWrittenAllPacked f x most_stream) bytes more c m d ahead wrote)
 read_so_far f x forms.Bare bytes more c m d bound wrote = bound
 
-append_none : (c m d : Option (List ℕ)) (text : List ℕ) → Appends c m text → Appends m d [] → Appends c d text
+pub append_none : (c m d : Option (List ℕ)) (text : List ℕ) → Appends c m text → Appends m d [] → Appends c d text
 append_none c m d text wrote none = subst (Appends c d) (append-nil text) (Appends-trans c m d text [] wrote none)
 
 -- `HasWritten` still holds after nothing more was written.

@@ -27,7 +27,7 @@ abbrev ended : Ending → Ending
 ended r = r
 
 -- The result of a loop that ends with the fault `e`.
-abbrev stopped : RunFault → Ending
+abbrev pub stopped : RunFault → Ending
 stopped e = Err e
 
 -- The result of a run that ends with the fault `e`.
@@ -44,7 +44,7 @@ not_true false none = refl
 not_true true none = absurd (none refl)
 
 -- Neither the reader nor the writer has failed.
-abbrev BothFine : Bool → Bool → Type 0
+abbrev pub BothFine : Bool → Bool → Type 0
 BothFine reader writer = (reader ≡ true → ⊥) × (writer ≡ false)
 
 pub refused_fine : (at : Position) (r : Refusal) (reader writer : Bool)

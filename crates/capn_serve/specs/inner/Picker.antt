@@ -1,13 +1,9 @@
 -- The service that picks messages, and looks only at the first of its remaining ranges.
-use Rattle.std.specs.Prelude.{◌≡◌, ℕ, ◌+◌, nat_lt, if◌then◌else◌, List, [], ◌∷◌, Bool, true, false, Result, Ok}
-use Rattle.std.specs.Prelude.{refl}
+use Rattle.std.specs.Prelude.{◌≡◌, ℕ, ◌+◌, nat_lt, if◌then◌else◌, List, [], ◌∷◌, Bool, true, false, refl}
 use Rattle.capn_canon.specs.declared.refusal.Refusal.{Refusal}
-use Rattle.capn_serve.specs.declared.fault.RunFault.{RunFault}
 use Rattle.capn_serve.specs.declared.pick.Range.{Range}
 use Rattle.capn_serve.specs.declared.picker.Picker.{Picker}
 use Rattle.capn_serve.specs.declared.position.Position.{Position}
-use Rattle.capn_serve.specs.declared.service.Run.{Run}
-use Rattle.capn_serve.specs.Finish.{Finish, finish_of, no_closing, nothing_told}
 
 -- Tests whether `number` is in the first of the ranges.
 abbrev pub is_first : List Range → ℕ → Bool
@@ -46,15 +42,3 @@ refuses p at frame message r = ⊥
 -- The service is `done` if no range remains.
 abbrev pub done : Picker → Position → Bool
 done p at = is_none p.rest.now
-
--- The result of a run whose loop ended without a fault.
-abbrev pub outcome : Picker → Position → Result (Unit {0}) RunFault
-outcome p at = Ok tt
-
--- The fault of a run after a `RunFault`.
-abbrev pub stops : Picker → Position → RunFault → RunFault
-stops p at fault = fault
-
--- The end of a run, without a closing text.
-abbrev pub picker_finish : Finish (Run Picker) (Unit {0}) RunFault
-picker_finish = finish_of no_closing nothing_told outcome stops
