@@ -4,4 +4,3 @@ mod Climbs
 mod Loops
 mod Ready
 mod Served
-mod AnnotatedRuns

@@ -5,7 +5,7 @@ ghost use Rattle.capn_words.specs.Watched.{inner_of, has_failed};
 ghost use Rattle.capn_annotate.specs.AnnotateRun.{Annotated};
 
 use crate::annotate_order::AnnotateOrder;
-use capn_serve::{Run, RunFault, serve_form};
+use capn_serve::{RunFault, run_messages};
 use capn_words::Watched;
 use std::alloc::Allocator;
 use std::io::{Read, Write};
@@ -35,8 +35,5 @@ pub fn run_annotate<R: Read, W: Write, A: Allocator + Copy>(
         (W.contents (inner_of writer.old)) (W.contents (inner_of writer.new)) (has_failed reader.new)
         (has_failed writer.new) result }
 {
-    let most = order.limits.message_words();
-    let form = order.form;
-    let mut run = Run::new(order);
-    serve_form(alloc, form, most, &mut run, reader, writer)
+    run_messages(alloc, order.form, order.limits, order, reader, writer)
 }
