@@ -26,5 +26,4 @@ pub mod LastWord
 pub mod Packed
 pub mod HeldBack
 pub mod PartServed
-pub mod ShownRuns
 mod EndLines

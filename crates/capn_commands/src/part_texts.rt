@@ -1,4 +1,5 @@
-//! The service of `show`: it writes the value at a path of each message, in a style or in lines with offsets or paths.
+//! The service of `show`, and the end of its runs. The service writes the value at a path of each message, in a style
+//! or in lines with offsets or paths.
 
 ghost use Rattle.std.specs.Prelude.{◌≡◌, ◌||◌, false};
 ghost use Rattle.capn_words.specs.Message.{total};
@@ -13,7 +14,7 @@ ghost use Rattle.capn_commands.specs.inner.AddedParts.{AddsEnd, AddsPart, IsFaul
 use crate::message_marks::{add_marked_end, marks_of};
 use capn_canon::{Form, Refusal};
 use capn_marks::{Marks, show_marked};
-use capn_serve::{Position, ServeFault, Service, flush_long};
+use capn_serve::{Begun, Finish, Position, RunFault, ServeFault, Service, flush_long};
 use capn_show::{ShowFault, Style, show_part};
 use capn_walk::Limits;
 use capn_words::{Space, Watched, total_words};
@@ -162,5 +163,49 @@ impl<'w> Service for PartTexts<'w> {
         writer: &mut Watched<W>,
     ) -> Result<(), ServeFault> {
         add_text(alloc, self, at, message, text, writer)
+    }
+}
+
+impl<'w> Finish for PartTexts<'w> {
+    ghost use Rattle.capn_serve.specs.Finish.{no_closing, nothing_found, nothing_told, same_fault};
+
+    type Found = ();
+
+    type Fault = RunFault;
+
+    ghost closing = { no_closing };
+
+    ghost told = { nothing_told };
+
+    ghost outcome = { nothing_found };
+
+    ghost stops = { same_fault };
+
+    fn write_closing<W: Write, A: Allocator + Copy>(
+        &self,
+        _alloc: A,
+        _at: Position,
+        _writer: &mut Watched<W>,
+    ) -> Result<(), RunFault> {
+        Ok(())
+    }
+
+    fn write_told<W: Write, A: Allocator + Copy>(
+        &self,
+        _alloc: A,
+        _at: Position,
+        _refusal: &Refusal,
+        _begun: &Begun<A>,
+        _writer: &mut Watched<W>,
+    ) -> Result<(), RunFault> {
+        Ok(())
+    }
+
+    fn outcome(&self, _at: Position) -> Result<(), RunFault> {
+        Ok(())
+    }
+
+    fn stops(&self, _at: Position, stopped: RunFault) -> RunFault {
+        stopped
     }
 }

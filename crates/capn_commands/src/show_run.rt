@@ -5,7 +5,7 @@ ghost use Rattle.capn_words.specs.Watched.{inner_of, has_failed};
 ghost use Rattle.capn_commands.specs.ShowRun.{Shown};
 
 use crate::part_texts::PartTexts;
-use capn_serve::{Run, RunFault, serve_form};
+use capn_serve::{RunFault, run_messages};
 use capn_words::Watched;
 use std::alloc::Allocator;
 use std::io::{Read, Write};
@@ -32,14 +32,13 @@ pub fn run_show<R: Read, W: Write, A: Allocator + Copy>(
         (W.contents (inner_of writer.old)) (W.contents (inner_of writer.new)) (has_failed reader.new)
         (has_failed writer.new) result }
 {
-    let most = texts.limits.message_words();
-    let mut run = Run::new(PartTexts {
+    let service = PartTexts {
         path: texts.path,
         form: texts.form,
         limits: texts.limits,
         style: texts.style,
         offsets: texts.offsets,
         ways: texts.ways,
-    });
-    serve_form(alloc, texts.form, most, &mut run, reader, writer)
+    };
+    run_messages(alloc, texts.form, texts.limits, service, reader, writer)
 }

@@ -1,7 +1,10 @@
-use Rattle.capn_commands.proofs.ShownRuns.{shown_run}
+use Rattle.capn_serve.specs.StreamRun.{first_run}
+use Rattle.capn_serve.proofs.shared.PlainEnds.{plain_run}
+use Rattle.capn_commands.specs.ShowRun.{part_fold}
 use Rattle.capn_commands.proofs.show_run.run_show.Goals as goal
 
 pub returns : goal.returns
 returns g c =
-    shown_run c.args.texts.now c.new-run.result c.message_words-most.result _ _ _ _ _ _ c.serve_form.result
-    c.serve_form.new.run c.message_words-most.ensures.value c.new-run.ensures c.serve_form.ensures
+    let texts = c.args.texts.now in
+    plain_run (part_fold texts.limits.message_words) (first_run texts) texts.form _ _ _ _ _ _ c.run_messages.result
+    c.run_messages.ensures
