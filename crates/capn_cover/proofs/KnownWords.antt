@@ -1,6 +1,6 @@
 -- Words that are known to be of a part. They stay so, and covering them once more by that part only counts.
-use Rattle.std.proofs.Common.{◌≡◌, ◌⊎◌, inl, inr, ℕ, zero, suc, ◌+◌, ◌-◌, ◌*◌, ◌<◌, ◌==◌, Bool, true, false, not, ◌||◌}
-use Rattle.std.proofs.Common.{List, [], ◌∷◌, ◌++◌, length, get_or, set, refl, ap, sym, subst, ◌∙◌, arith}
+use Rattle.std.proofs.Common.{◌≡◌, inl, inr, ℕ, zero, suc, ◌+◌, ◌-◌, ◌*◌, ◌<◌, ◌==◌, Bool, true, false, not, ◌||◌}
+use Rattle.std.proofs.Common.{List, [], ◌∷◌, ◌++◌, length, get_or, set, refl, ap, sym, ◌∙◌, arith}
 use Rattle.std.proofs.lemmas.Bool.{cases_eq}
 use Rattle.std.proofs.lemmas.Bool.Decides.{nat_tests}
 use Rattle.std.proofs.lemmas.List.{get_or-set_same, get_or-set_other}
@@ -12,7 +12,7 @@ use Rattle.capn_cover.specs.Parts.{differs, part, same_part}
 use Rattle.capn_cover.specs.Covers.{Covering, run, rows_run, unreached}
 use Rattle.capn_cover.specs.inner.Known.{IsKnown, AreKnown}
 use Rattle.capn_cover.specs.inner.Laid.{holder_after, first_covered, covered_again, once_more, followed, followed_in}
-use Rattle.capn_cover.specs.inner.Laid.{touched_in, touched, laid}
+use Rattle.capn_cover.specs.inner.Laid.{touched, laid}
 use Rattle.capn_cover.proofs.LaidItems.{length_followed, length-touched, laid-length}
 use Rattle.capn_cover.proofs.Runs.{rows-split, row_run}
 use Rattle.capn_cover.proofs.SameParts.{same-part}

@@ -6,6 +6,7 @@ mod CoverAt
 mod Sums
 mod Visited
 mod Pads
+mod NearTargets
 mod BelowSlots
 mod Marks
 mod MarksTo

@@ -1,7 +1,7 @@
 -- The words of each slot that is followed are known together, before and after each visit.
 use Rattle.std.proofs.Common.{◌≡◌, ◌⊎◌, inl, inr, ℕ, ◌<◌, ◌≤◌, nat_lt, Bool, true, false, ◌&&◌, List}
 use Rattle.std.proofs.Common.{[], ◌∷◌, length, get_or, set}
-use Rattle.std.proofs.Common.{replicate, Option, Some, refl, ap, sym, subst, ◌∙◌, arith}
+use Rattle.std.proofs.Common.{replicate, Some, refl, ap, sym, ◌∙◌, arith}
 use Rattle.std.proofs.lemmas.Bool.{cases_eq, cases_lt}
 use Rattle.std.proofs.lemmas.Bool.Decides.{nat_tests}
 use Rattle.std.proofs.lemmas.List.{get_or-set_same, get_or-set_other, get_or_past, get_or-replicate, length-replicate}
@@ -10,14 +10,12 @@ use Rattle.capn_words.specs.Message.{IsPlace}
 use Rattle.capn_words.specs.declared.space.Place.{Place}
 use Rattle.capn_target.specs.Target.{target}
 use Rattle.capn_cover.specs.declared.covered.Covered.{Covered}
-use Rattle.capn_cover.specs.declared.covered.Role.TheVariants as roles
 use Rattle.capn_cover.specs.Numbers.{number, place_from}
 use Rattle.capn_cover.specs.Covers.{Covering, covers, unreached, whole}
 use Rattle.capn_cover.specs.inner.Known.{AreKnown, AreKnownTogether, is_repeated}
-use Rattle.capn_cover.specs.inner.Laid.{once_more, followed, followed_in, touched_in, touched, laid, IsFollowed}
+use Rattle.capn_cover.specs.inner.Laid.{once_more, followed, followed_in, touched, laid, IsFollowed}
 use Rattle.capn_cover.proofs.Following.{once-followed}
 use Rattle.capn_cover.proofs.KnownWords.{all-stay, all-known}
-use Rattle.capn_cover.proofs.LaidItems.{laid-length}
 use Rattle.capn_cover.proofs.PlaceOf.{place-of-number}
 use Rattle.capn_cover.proofs.SlotPlaces.{AllSlots, slots-covers}
 

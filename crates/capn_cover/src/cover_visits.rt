@@ -1,99 +1,25 @@
 //! The visits of a cover, which go over the slots of a message in the order of the walk. Each visit covers the words of
 //! its landing pad and of its content, and then the slots below are visited.
 
-ghost use Rattle.std.specs.Prelude.{◌≡◌, ◌≤◌, ◌<◌, ◌+◌, ◌*◌, length, Ok};
-ghost use Rattle.capn_words.specs.Message.{IsMessage, IsPlace, total};
+ghost use Rattle.std.specs.Prelude.{◌≡◌, ◌≤◌, ◌<◌, ◌+◌, ◌*◌, length};
+ghost use Rattle.capn_words.specs.Message.{IsMessage, IsPlace, total, word_at};
 ghost use Rattle.capn_target.specs.Target as spec;
-ghost use Rattle.capn_target.specs.declared.target.Target.TheVariants as targets;
 ghost use Rattle.capn_target.specs.Shapes.{IsContent, extent, RowsFit};
 ghost use Rattle.capn_walk.specs.Visits.{places, row_places, slots};
 ghost use Rattle.capn_cover.specs.Numbers.{CountsBefore};
-ghost use Rattle.capn_cover.specs.Covers.{covers, pad_run};
 ghost use Rattle.capn_cover.specs.inner.Known.{AreKnownTogether};
-ghost use Rattle.capn_cover.specs.inner.Laid.{laid, HasRoom, Leads, cover_below, cover_of};
+ghost use Rattle.capn_cover.specs.inner.Laid.{laid, HasRoom, cover_below, cover_of};
 
-use crate::covered::{Covered, Role};
-use crate::object_words::cover_content;
-use crate::repeated::{is_repeated, repeat_object};
-use crate::starts::number_of;
-use crate::word_runs::cover_run;
-use capn_walk::{Shape, Target, resolve};
+use crate::covered::Covered;
+use crate::near_target::near_target;
+use crate::one_visit::cover_object;
+use capn_walk::{Fault, Shape, Target, resolve};
 use capn_words::{Place, Pointer, Space, Width, split};
 
-/// Covers the `pads` words of the landing pad of the slot at `at`, each once more. Element `s` of `before` is the
-/// number of words before segment `s`. The slot has the number `slot`, and leads to content.
-#[inline(always)]
-fn cover_pads<S: Space>(
-    space: &S,
-    before: &[u32],
-    cells: &mut [Covered],
-    at: Place,
-    pads: u8,
-    slot: u32,
-)
-    requires message { IsMessage (S.message space.now) }
-    requires counts { CountsBefore (S.message space.now) before.now }
-    requires each { length cells.old ≡ total (S.message space.now) }
-    requires place { IsPlace (S.message space.now) at }
-    requires by { slot < length cells.old }
-    requires leads { Leads (S.message space.now) at pads }
-    requires room { HasRoom (length (pad_run (S.message space.now) slot pads
-        (spec.pointer_in (S.message space.now) at.segment at.word))) cells.old }
-    ensures { cells.new ≡ laid (S.message space.now)
-        (pad_run (S.message space.now) slot pads (spec.pointer_in (S.message space.now) at.segment at.word)) cells.old }
-{
-    let pointer = split(space.word(at));
-    if let Pointer::Far {
-        double: _,
-        word,
-        segment,
-    } = pointer
-    {
-        let first = number_of(space, before, segment, word);
-        cover_run(space, before, cells, first, pads as u32, slot, Role::Pad);
-    }
-}
-
-/// Covers the words of the visit of the slot at `at`, each once more: first the landing pad of `pads` words, then the
-/// content of this `shape` at word `start` of `segment`, to which the slot leads. Element `s` of `before` is the number
-/// of words before segment `s`.
-#[inline(always)]
-fn cover_object<S: Space>(
-    space: &S,
-    before: &[u32],
-    cells: &mut [Covered],
-    at: Place,
-    segment: u32,
-    start: u32,
-    shape: Shape,
-    pads: u8,
-)
-    requires message { IsMessage (S.message space.now) }
-    requires counts { CountsBefore (S.message space.now) before.now }
-    requires each { length cells.old ≡ total (S.message space.now) }
-    requires place { IsPlace (S.message space.now) at }
-    requires leads { spec.target (S.message space.now) at ≡ Ok (targets.Content segment start shape pads) }
-    requires known { AreKnownTogether (S.message space.now) cells.old }
-    requires room { HasRoom (length
-        (covers (S.message space.now) at (Ok (targets.Content segment start shape pads)))) cells.old }
-    ensures cells { cells.new ≡ laid (S.message space.now)
-        (covers (S.message space.now) at (Ok (targets.Content segment start shape pads))) cells.old }
-    ensures known { AreKnownTogether (S.message space.now) cells.new }
-{
-    let slot = number_of(space, before, at.segment, at.word);
-    let first = number_of(space, before, segment, start);
-    if is_repeated(cells, slot) {
-        repeat_object(space, before, cells, at, pads, slot, first, shape);
-        return;
-    }
-    cover_pads(space, before, cells, at, pads, slot);
-    cover_content(space, before, cells, first, shape, slot);
-}
-
 /// Makes the visit of the slot at `at` and of all slots below it, at most `depth` objects deep: covers their words once
-/// more each. Element `s` of `before` is the number of words before segment `s`. A slot with a fault covers nothing,
-/// but a message that is accepted has none.
+/// more each. Element `s` of `before` is the number of words before segment `s`.
 #[cycle(cover_slots)]
+#[inline(never)]
 pub fn cover_slot<S: Space>(space: &S, before: &[u32], cells: &mut [Covered], at: Place, depth: u32)
     requires message { IsMessage (S.message space.now) }
     requires counts { CountsBefore (S.message space.now) before.now }
@@ -104,10 +30,71 @@ pub fn cover_slot<S: Space>(space: &S, before: &[u32], cells: &mut [Covered], at
     ensures cells { cells.new ≡ laid (S.message space.now) (cover_below (S.message space.now) depth at) cells.old }
     ensures known { AreKnownTogether (S.message space.now) cells.new }
 {
+    cover_found(space, before, cells, at, resolve(space, at), depth);
+}
+
+/// Makes the visit of the slot at `at`, which holds `word`, and of all slots below it, at most `depth` objects deep.
+/// For speed, a pointer that names a near struct and one that names a near list have a match arm each.
+#[cycle(cover_slots)]
+#[inline(always)]
+fn cover_pointer<S: Space>(
+    space: &S,
+    before: &[u32],
+    cells: &mut [Covered],
+    at: Place,
+    word: u64,
+    depth: u32,
+)
+    requires message { IsMessage (S.message space.now) }
+    requires counts { CountsBefore (S.message space.now) before.now }
+    requires each { length cells.old ≡ total (S.message space.now) }
+    requires place { IsPlace (S.message space.now) at }
+    requires word { word ≡ word_at (S.message space.now) at }
+    requires known { AreKnownTogether (S.message space.now) cells.old }
+    requires room { HasRoom (length (cover_below (S.message space.now) depth at)) cells.old }
+    ensures cells { cells.new ≡ laid (S.message space.now) (cover_below (S.message space.now) depth at) cells.old }
+    ensures known { AreKnownTogether (S.message space.now) cells.new }
+{
+    let pointer = split(word);
+    match pointer {
+        Pointer::Node { .. } => {
+            let found = near_target(space, at, pointer);
+            cover_found(space, before, cells, at, found, depth)
+        }
+        Pointer::Many { .. } => {
+            let found = near_target(space, at, pointer);
+            cover_found(space, before, cells, at, found, depth)
+        }
+        _ => cover_slot(space, before, cells, at, depth),
+    }
+}
+
+/// Makes the visit of the slot at `at` and of all slots below it, at most `depth` objects deep. `found` is the target
+/// of the slot, or the slot's fault. A slot with a fault covers nothing, but a message that is accepted has none.
+#[cycle(cover_slots)]
+#[inline(always)]
+fn cover_found<S: Space>(
+    space: &S,
+    before: &[u32],
+    cells: &mut [Covered],
+    at: Place,
+    found: Result<Target, Fault>,
+    depth: u32,
+)
+    requires message { IsMessage (S.message space.now) }
+    requires counts { CountsBefore (S.message space.now) before.now }
+    requires each { length cells.old ≡ total (S.message space.now) }
+    requires place { IsPlace (S.message space.now) at }
+    requires found { found ≡ spec.target (S.message space.now) at }
+    requires known { AreKnownTogether (S.message space.now) cells.old }
+    requires room { HasRoom (length (cover_below (S.message space.now) depth at)) cells.old }
+    ensures cells { cells.new ≡ laid (S.message space.now) (cover_below (S.message space.now) depth at) cells.old }
+    ensures known { AreKnownTogether (S.message space.now) cells.new }
+{
     if depth == 0 {
         return;
     }
-    match resolve(space, at) {
+    match found {
         Ok(target) => match target {
             Target::Content {
                 segment,
@@ -128,6 +115,7 @@ pub fn cover_slot<S: Space>(space: &S, before: &[u32], cells: &mut [Covered], at
 /// Makes the visits of the slots of the object of this `shape` whose content starts at word `start` of `segment`, and
 /// of all slots below them.
 #[cycle(cover_slots)]
+#[inline(always)]
 fn cover_object_slots<S: Space>(
     space: &S,
     before: &[u32],
@@ -150,11 +138,14 @@ fn cover_object_slots<S: Space>(
 {
     match shape {
         Shape::Node { words, slots } => {
+            if slots == 0 {
+                return;
+            }
             let first = Place {
                 segment,
                 word: start + words as u32,
             };
-            cover_slots(space, before, cells, first, slots as u32, depth);
+            cover_slots_apart(space, before, cells, first, slots as u32, depth);
         }
         Shape::Many { width, count } => match width {
             Width::Link => {
@@ -162,7 +153,7 @@ fn cover_object_slots<S: Space>(
                     segment,
                     word: start,
                 };
-                cover_slots(space, before, cells, first, count, depth);
+                cover_slots_apart(space, before, cells, first, count, depth);
             }
             _ => {}
         },
@@ -184,6 +175,7 @@ fn cover_object_slots<S: Space>(
 /// Makes the visits of `count` slots from `first` on, and of all slots below them. A visit of a null slot covers
 /// nothing.
 #[cycle(cover_slots)]
+#[inline(always)]
 fn cover_slots<S: Space>(
     space: &S,
     before: &[u32],
@@ -208,16 +200,44 @@ fn cover_slots<S: Space>(
             segment: first.segment,
             word: first.word + i,
         };
-        if space.word(at) == 0 {
+        let word = space.word(at);
+        if word == 0 {
             continue;
         }
-        cover_slot(space, before, cells, at, depth);
+        cover_pointer(space, before, cells, at, word, depth);
     }
+}
+
+/// Makes the visits of `count` slots from `first` on, as [`cover_slots`] does. This function is not inlined, and a
+/// visit of an object without slots doesn't call it.
+#[cycle(cover_slots)]
+#[inline(never)]
+fn cover_slots_apart<S: Space>(
+    space: &S,
+    before: &[u32],
+    cells: &mut [Covered],
+    first: Place,
+    count: u32,
+    depth: u32,
+)
+    requires message { IsMessage (S.message space.now) }
+    requires counts { CountsBefore (S.message space.now) before.now }
+    requires each { length cells.old ≡ total (S.message space.now) }
+    requires content { IsContent (S.message space.now) first count }
+    requires known { AreKnownTogether (S.message space.now) cells.old }
+    requires room { HasRoom (length
+        (cover_of (S.message space.now) depth (places first.segment first.word count))) cells.old }
+    ensures cells { cells.new ≡ laid (S.message space.now)
+        (cover_of (S.message space.now) depth (places first.segment first.word count)) cells.old }
+    ensures known { AreKnownTogether (S.message space.now) cells.new }
+{
+    cover_slots(space, before, cells, first, count, depth);
 }
 
 /// Makes the visits of the slots of `count` rows, and of all slots below them. The rows begin at `first`, and each has
 /// `words` data words and then `slots` slots.
 #[cycle(cover_slots)]
+#[inline(never)]
 fn cover_row_slots<S: Space>(
     space: &S,
     before: &[u32],

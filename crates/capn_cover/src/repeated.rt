@@ -179,6 +179,9 @@ fn repeat_pads<S: Space>(
         (pad_run (S.message space.now) slot pads (pointer_in (S.message space.now) at.segment at.word)) cells.old }
     ensures followed { IsFollowed slot cells.new }
 {
+    if pads == 0 {
+        return;
+    }
     let pointer = split(space.word(at));
     if let Pointer::Far {
         double: _,

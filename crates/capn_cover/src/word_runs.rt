@@ -120,32 +120,6 @@ fn touch_known<S: Space>(
     false
 }
 
-/// Covers the word with the number `word` once more, as [`touch`] does. A word that the comparison `known` is of takes
-/// few instructions.
-#[inline(always)]
-fn cover_one<S: Space>(
-    space: &S,
-    before: &[u32],
-    cells: &mut [Covered],
-    known: &mut Comparison,
-    word: u32,
-    slot: u32,
-    role: Role,
-)
-    requires message { IsMessage (S.message space.now) }
-    requires counts { CountsBefore (S.message space.now) before.now }
-    requires known { Knows (S.message space.now) slot role known.old }
-    requires within { word < length cells.old }
-    requires room { HasRoom 1 cells.old }
-    ensures cells { cells.new ≡ touched_in (S.message space.now) word slot role cells.old }
-    ensures known { Knows (S.message space.now) slot role known.new }
-{
-    if touch_known(space, cells, *known, word as usize, slot, role) {
-        return;
-    }
-    touch(space, before, cells, known, word, slot, role);
-}
-
 /// Covers words from the number `first` on, at most `count`, as long as the comparison `known` is of them, and returns
 /// how many it covers. The visit is that of the slot with the number `slot`, which is marked as followed.
 #[inline(always)]
@@ -203,16 +177,13 @@ pub fn cover_words<S: Space>(
         return;
     }
     follow(cells, slot);
-    if count == 1 {
-        cover_one(space, before, cells, known, first, slot, role);
-        return;
-    }
     let mut done = 0;
     'words: while done < count {
-        done += cover_known(space, cells, *known, first + done, count - done, slot, role);
-        if done < count {
-            touch(space, before, cells, known, first + done, slot, role);
-            done += 1;
+        touch(space, before, cells, known, first + done, slot, role);
+        done += 1;
+        // The loop of `cover_known` is only for a visit that has compared its object with another one.
+        if known.slot != slot {
+            done += cover_known(space, cells, *known, first + done, count - done, slot, role);
         }
     }
 }

@@ -9,62 +9,63 @@ use Rattle.capn_cover.specs.Covers.{covers}
 use Rattle.capn_cover.specs.inner.Laid.{cover_below, cover_of}
 use Rattle.capn_cover.proofs.BelowSlots.{slots-split, slots-next, slots_to, rows-split, rows-next, rows_to, row_slots}
 use Rattle.capn_cover.proofs.BelowSlots.{below-zero, below-null, below-target, below-fault}
+use Rattle.capn_cover.proofs.NearTargets.{near-struct, near-list}
 use Rattle.capn_cover.proofs.Rooms.{laid-next, room-first, room-second, room-part}
 use Rattle.capn_cover.proofs.cover_visits.+cover_slots.Goals as goal
 
-pub cover_slot-returns-then-depth-eq0-clause-cells : goal.cover_slot-returns-then-depth-eq0-clause-cells
-cover_slot-returns-then-depth-eq0-clause-cells g t c =
+pub cover_found-returns-then-depth-eq0-clause-cells : goal.cover_found-returns-then-depth-eq0-clause-cells
+cover_found-returns-then-depth-eq0-clause-cells g t c =
     let m = g.S.Space.message c.args.space.now in
     let e = below-zero m c.args.at c.args.depth c.if-depth-eq0.true in
     rw e refl
 
-pub cover_slot-returns-in-Err-clause-cells : goal.cover_slot-returns-in-Err-clause-cells
-cover_slot-returns-in-Err-clause-cells g t c =
+pub cover_found-returns-in-Err-clause-cells : goal.cover_found-returns-in-Err-clause-cells
+cover_found-returns-in-Err-clause-cells g t c =
     let m = g.S.Space.message c.args.space.now in
-    let e = sym c.resolve.ensures.exact ∙ c.in-Err.is in
+    let e = sym c.requires.found ∙ c.in-Err.is in
     let b = below-fault m c.args.at c.args.depth c.in-Err.field-0 e in
     rw b refl
 
-pub cover_slot-returns-in-Nil-clause-cells : goal.cover_slot-returns-in-Nil-clause-cells
-cover_slot-returns-in-Nil-clause-cells g t c =
+pub cover_found-returns-in-Nil-clause-cells : goal.cover_found-returns-in-Nil-clause-cells
+cover_found-returns-in-Nil-clause-cells g t c =
     let m = g.S.Space.message c.args.space.now in
-    let e = sym c.resolve.ensures.exact ∙ c.in-Ok.is ∙ ap Ok c.in-Nil.is in
+    let e = sym c.requires.found ∙ c.in-Ok.is ∙ ap Ok c.in-Nil.is in
     let b = below-target m c.args.at c.args.depth targets.Nil e c.if-depth-eq0.false in
     rw b refl
 
-pub cover_slot-returns-in-Cap-clause-cells : goal.cover_slot-returns-in-Cap-clause-cells
-cover_slot-returns-in-Cap-clause-cells g t c =
+pub cover_found-returns-in-Cap-clause-cells : goal.cover_found-returns-in-Cap-clause-cells
+cover_found-returns-in-Cap-clause-cells g t c =
     let m = g.S.Space.message c.args.space.now in
-    let e = sym c.resolve.ensures.exact ∙ c.in-Ok.is ∙ ap Ok c.in-Cap.is in
+    let e = sym c.requires.found ∙ c.in-Ok.is ∙ ap Ok c.in-Cap.is in
     let b = below-target m c.args.at c.args.depth (targets.Cap c.in-Cap.field-0) e c.if-depth-eq0.false in
     rw b refl
 
-pub cover_slot-returns-in-Content-clause-cells : goal.cover_slot-returns-in-Content-clause-cells
-cover_slot-returns-in-Content-clause-cells g t c =
+pub cover_found-returns-in-Content-clause-cells : goal.cover_found-returns-in-Content-clause-cells
+cover_found-returns-in-Content-clause-cells g t c =
     let m = g.S.Space.message c.args.space.now in
     let x = c.in-Content in
     let found = targets.Content x.segment x.start x.shape x.pads in
-    let e = sym c.resolve.ensures.exact ∙ c.in-Ok.is ∙ ap Ok x.is in
+    let e = sym c.requires.found ∙ c.in-Ok.is ∙ ap Ok x.is in
     let b = below-target m c.args.at c.args.depth found e c.if-depth-eq0.false in
     laid-next m _ (covers m c.args.at (Ok found)) (cover_of m (c.args.depth - 1) (slots x.segment x.start x.shape))
     c.args.cells.now _ _ b c.cover_object.ensures.cells c.cover_object_slots.ensures.cells
 
-pub cover_slot-cover_object-requires-clause-room : goal.cover_slot-cover_object-requires-clause-room
-cover_slot-cover_object-requires-clause-room g t c =
+pub cover_found-cover_object-requires-clause-room : goal.cover_found-cover_object-requires-clause-room
+cover_found-cover_object-requires-clause-room g t c =
     let m = g.S.Space.message c.args.space.now in
     let x = c.in-Content in
     let found = targets.Content x.segment x.start x.shape x.pads in
-    let e = sym c.resolve.ensures.exact ∙ c.in-Ok.is ∙ ap Ok x.is in
+    let e = sym c.requires.found ∙ c.in-Ok.is ∙ ap Ok x.is in
     let b = below-target m c.args.at c.args.depth found e c.if-depth-eq0.false in
     room-first (cover_below m c.args.depth c.args.at) (covers m c.args.at (Ok found))
     (cover_of m (c.args.depth - 1) (slots x.segment x.start x.shape)) c.args.cells.now b c.requires.room
 
-pub cover_slot-cover_object_slots-requires : goal.cover_slot-cover_object_slots-requires
-cover_slot-cover_object_slots-requires g t c κs within =
+pub cover_found-cover_object_slots-requires : goal.cover_found-cover_object_slots-requires
+cover_found-cover_object_slots-requires g t c κs within =
     let m = g.S.Space.message c.args.space.now in
     let x = c.in-Content in
     let found = targets.Content x.segment x.start x.shape x.pads in
-    let e = sym c.resolve.ensures.exact ∙ c.in-Ok.is ∙ ap Ok x.is in
+    let e = sym c.requires.found ∙ c.in-Ok.is ∙ ap Ok x.is in
     let b = below-target m c.args.at c.args.depth found e c.if-depth-eq0.false in
     let inside = found-inside m c.args.at found c.requires.place e in
     let content = inside.0 in
@@ -76,8 +77,27 @@ cover_slot-cover_object_slots-requires g t c κs within =
     c.requires.room in
     search rules
 
-pub cover_slots-cover_slot-requires : goal.cover_slots-cover_slot-requires
-cover_slots-cover_slot-requires g t c κs within =
+pub cover_object_slots-returns-then-slots-eq0-clause-cells : goal.cover_object_slots-returns-then-slots-eq0-clause-cells
+cover_object_slots-returns-then-slots-eq0-clause-cells g t c = rw (c.in-Node.is, c.if-slots-eq0.true) refl
+
+pub cover_pointer-near_target-found-requires-clause-pointer
+    : goal.cover_pointer-near_target-found-requires-clause-pointer
+cover_pointer-near_target-found-requires-clause-pointer g t c =
+    let m = g.S.Space.message c.args.space.now in
+    let p = c.split-pointer in
+    let x = c.in-Node in
+    near-struct m c.args.at c.args.word p.result x.offset x.words x.slots c.requires.word p.ensures.read x.is
+
+pub cover_pointer-near_target-found-requires-in-Many-clause-pointer
+    : goal.cover_pointer-near_target-found-requires-in-Many-clause-pointer
+cover_pointer-near_target-found-requires-in-Many-clause-pointer g t c =
+    let m = g.S.Space.message c.args.space.now in
+    let p = c.split-pointer in
+    let x = c.in-Many in
+    near-list m c.args.at c.args.word p.result x.offset x.width x.count c.requires.word p.ensures.read x.is
+
+pub cover_slots-cover_pointer-requires : goal.cover_slots-cover_pointer-requires
+cover_slots-cover_pointer-requires g t c κs within =
     let m = g.S.Space.message c.args.space.now in
     let s = c.args.first.segment in
     let w = c.args.first.word in
@@ -95,7 +115,7 @@ cover_slots-loop-i-preserved-then-word-eq0 g t c =
     let w = c.args.first.word in
     let d = c.args.depth in
     let i = c.loop-i.i in
-    let null = below-null m (slot s (w + i)) d (sym c.word.ensures ∙ c.if-word-eq0.true) in
+    let null = below-null m (slot s (w + i)) d (sym c.word-word.ensures ∙ c.if-word-eq0.true) in
     record {
       cells = laid-next m _ (slots_to m d s w i) (cover_below m d (slot s (w + i))) c.args.cells.now c.loop-i.cells _
           (slots-next m d s w i) c.loop-i.invariant.cells (rw null refl);
@@ -111,8 +131,8 @@ cover_slots-loop-i-preserved g t c =
     let i = c.loop-i.i in
     record {
       cells = laid-next m _ (slots_to m d s w i) (cover_below m d (slot s (w + i))) c.args.cells.now c.loop-i.cells _
-          (slots-next m d s w i) c.loop-i.invariant.cells c.cover_slot.ensures.cells;
-      known = c.cover_slot.ensures.known;
+          (slots-next m d s w i) c.loop-i.invariant.cells c.cover_pointer.ensures.cells;
+      known = c.cover_pointer.ensures.known;
     }
 
 pub cover_row_slots-cover_slots-requires : goal.cover_row_slots-cover_slots-requires

@@ -4,17 +4,26 @@ use Rattle.capn_cover.specs.inner.Known.{AreKnownTogether}
 use Rattle.capn_cover.specs.inner.Laid.{laid, cover_of}
 use Rattle.capn_cover.proofs.cover_visits.+cover_slots.Given as goal
 
+abbrev pub decreases-cover_found : goal.decreases-cover_found
+decreases-cover_found g l = 7 * l.depth
+
 abbrev pub decreases-cover_slot : goal.decreases-cover_slot
-decreases-cover_slot g l = 4 * l.depth
+decreases-cover_slot g l = 7 * l.depth + 1
+
+abbrev pub decreases-cover_pointer : goal.decreases-cover_pointer
+decreases-cover_pointer g l = 7 * l.depth + 2
 
 abbrev pub decreases-cover_slots : goal.decreases-cover_slots
-decreases-cover_slots g l = 4 * l.depth + 1
+decreases-cover_slots g l = 7 * l.depth + 3
+
+abbrev pub decreases-cover_slots_apart : goal.decreases-cover_slots_apart
+decreases-cover_slots_apart g l = 7 * l.depth + 4
 
 abbrev pub decreases-cover_row_slots : goal.decreases-cover_row_slots
-decreases-cover_row_slots g l = 4 * l.depth + 2
+decreases-cover_row_slots g l = 7 * l.depth + 5
 
 abbrev pub decreases-cover_object_slots : goal.decreases-cover_object_slots
-decreases-cover_object_slots g l = 4 * l.depth + 3
+decreases-cover_object_slots g l = 7 * l.depth + 6
 
 abbrev pub invariant-cover_slots-loop-i : goal.invariant-cover_slots-loop-i
 invariant-cover_slots-loop-i g l =

@@ -1,4 +1,4 @@
-use Rattle.std.proofs.Common.{◌+◌, ◌*◌, ◌-◌, refl, ◌++◌, arith, rules}
+use Rattle.std.proofs.Common.{◌+◌, ◌*◌, ◌-◌, refl, ◌++◌, arith}
 use Rattle.capn_cover.specs.declared.covered.Role.TheVariants as roles
 use Rattle.capn_cover.specs.Covers.{run, rows_run}
 use Rattle.capn_cover.proofs.KnownWords.{all-stay, known-first, known-second}

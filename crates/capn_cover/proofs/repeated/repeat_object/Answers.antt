@@ -1,4 +1,4 @@
-use Rattle.std.proofs.Common.{◌≡◌, ◌∙◌, ◌++◌, List, length, refl, ap, arith}
+use Rattle.std.proofs.Common.{◌∙◌, ◌++◌, List, length, refl, ap, arith}
 use Rattle.capn_target.specs.Target.{pointer_in}
 use Rattle.capn_cover.specs.declared.covered.Covered.{Covered}
 use Rattle.capn_cover.specs.Covers.{pad_run, content_run}

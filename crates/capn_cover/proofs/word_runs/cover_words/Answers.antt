@@ -1,85 +1,80 @@
 use Rattle.std.proofs.Common.{◌≡◌, ℕ, ◌+◌, ◌-◌, ◌<◌, ◌∙◌, List, length, ap, arith}
 use Rattle.capn_cover.specs.declared.covered.Covered.{Covered}
 use Rattle.capn_cover.specs.Covers.{run}
-use Rattle.capn_cover.specs.inner.Laid.{laid, touched_in, HasRoom}
+use Rattle.capn_cover.specs.inner.Laid.{laid, HasRoom}
 use Rattle.capn_cover.proofs.LaidItems.{room_followed}
 use Rattle.capn_cover.proofs.Runs.{run-add}
 use Rattle.capn_cover.proofs.Rooms.{run-room, after-run, laid-next}
 use Rattle.capn_cover.proofs.Following.{one-more, still-followed, marked-first}
 use Rattle.capn_cover.proofs.word_runs.cover_words.Goals as goal
 
-pub cover_one-requires-clause-room : goal.cover_one-requires-clause-room
-cover_one-requires-clause-room g c =
-    let e = c.if-count-eq1.true in
-    let r = rw e at c.requires.room in
-    rw c.follow.ensures (room_followed c.args.slot 1 c.args.cells.now r)
-
-pub returns-then-count-eq1-clause-cells : goal.returns-then-count-eq1-clause-cells
-returns-then-count-eq1-clause-cells g c =
-    let m = g.S.Space.message c.args.space.now in
-    let e = c.if-count-eq1.true in
-    let f = c.follow.ensures in
-    rw e (c.cover_one.ensures.cells
-    ∙ ap (λ (xs : List Covered). touched_in m c.args.first c.args.slot c.args.role xs) f)
-
-pub cover_known-done-requires-clause-room : goal.cover_known-done-requires-clause-room
-cover_known-done-requires-clause-room g c =
-    let i = c.words.invariant in
-    let w = i.within in
-    let r : HasRoom c.args.count c.follow.new.cells =
-    rw c.follow.ensures (room_followed c.args.slot c.args.count c.args.cells.now c.requires.room) in
-    after-run (g.S.Space.message c.args.space.now) c.args.slot c.args.role c.args.first c.words.done
-    (c.args.count - c.words.done) c.args.count c.follow.new.cells c.words.cells (omega arith) i.cells r
-
 pub touch-requires-clause-room : goal.touch-requires-clause-room
 touch-requires-clause-room g c =
     let m = g.S.Space.message c.args.space.now in
-    let k = c.cover_known-done in
     let r : HasRoom c.args.count c.follow.new.cells =
     rw c.follow.ensures (room_followed c.args.slot c.args.count c.args.cells.now c.requires.room) in
-    let e = laid-next m (run c.args.slot c.args.role c.args.first (c.words.done + k.result))
-    (run c.args.slot c.args.role c.args.first c.words.done)
-    (run c.args.slot c.args.role (c.args.first + c.words.done) k.result) c.follow.new.cells c.words.cells k.new.cells
-    (run-add c.args.slot c.args.role c.args.first c.words.done k.result) c.words.invariant.cells k.ensures.cells in
-    run-room m c.args.slot c.args.role c.args.first (c.words.done + k.result) c.args.count c.follow.new.cells
-    k.new.cells c.if-done-count.true e r
+    run-room m c.args.slot c.args.role c.args.first c.words.done c.args.count c.follow.new.cells c.words.cells
+    c.words-test.true c.words.invariant.cells r
 
-pub words-preserved-then-done-count : goal.words-preserved-then-done-count
-words-preserved-then-done-count g c =
+pub cover_known-done-requires-clause-followed : goal.cover_known-done-requires-clause-followed
+cover_known-done-requires-clause-followed g c =
     let m = g.S.Space.message c.args.space.now in
-    let k = c.cover_known-done in
+    let i = c.words.invariant in
     let n = c.requires.within in
-    let t = c.if-done-count.true in
-    let a = k.auto.cells in
+    let t = c.words-test.true in
     let b = c.words.auto.cells in
     let d = c.follow.auto.cells in
-    let l : c.args.first + (c.words.done + k.result) < length k.new.cells = omega arith in
-    let e = laid-next m (run c.args.slot c.args.role c.args.first (c.words.done + k.result))
-    (run c.args.slot c.args.role c.args.first c.words.done)
-    (run c.args.slot c.args.role (c.args.first + c.words.done) k.result) c.follow.new.cells c.words.cells k.new.cells
-    (run-add c.args.slot c.args.role c.args.first c.words.done k.result) c.words.invariant.cells k.ensures.cells in
+    let l : c.args.first + c.words.done < length c.words.cells = omega arith in
+    rw c.touch.ensures.cells (still-followed m (c.args.first + c.words.done) c.args.slot c.args.role c.args.slot
+    c.words.cells l i.followed)
+
+pub cover_known-done-requires-clause-room : goal.cover_known-done-requires-clause-room
+cover_known-done-requires-clause-room g c =
+    let m = g.S.Space.message c.args.space.now in
+    let i = c.words.invariant in
+    let t = c.words-test.true in
+    let r : HasRoom c.args.count c.follow.new.cells =
+    rw c.follow.ensures (room_followed c.args.slot c.args.count c.args.cells.now c.requires.room) in
+    let e = one-more m c.args.slot c.args.role c.args.first c.words.done c.follow.new.cells c.words.cells _ i.cells
+    i.followed c.touch.ensures.cells in
+    after-run m c.args.slot c.args.role c.args.first (c.words.done + 1) (c.args.count - (c.words.done + 1)) c.args.count
+    c.follow.new.cells c.touch.new.cells (omega arith) e r
+
+pub words-preserved-then-known-slot : goal.words-preserved-then-known-slot
+words-preserved-then-known-slot g c =
+    let m = g.S.Space.message c.args.space.now in
+    let i = c.words.invariant in
+    let t = c.words-test.true in
+    let k = c.cover_known-done in
+    let h = k.ensures.count in
+    let e = one-more m c.args.slot c.args.role c.args.first c.words.done c.follow.new.cells c.words.cells _ i.cells
+    i.followed c.touch.ensures.cells in
     record {
       within = omega arith;
-      cells = one-more m c.args.slot c.args.role c.args.first (c.words.done + k.result) c.follow.new.cells k.new.cells _
-          e k.ensures.followed c.touch.ensures.cells;
-      followed = rw c.touch.ensures.cells (still-followed m (c.args.first + (c.words.done + k.result)) c.args.slot
-          c.args.role c.args.slot k.new.cells l k.ensures.followed);
+      cells = laid-next m _ (run c.args.slot c.args.role c.args.first (c.words.done + 1))
+          (run c.args.slot c.args.role (c.args.first + (c.words.done + 1)) k.result) c.follow.new.cells
+          c.touch.new.cells _ (run-add c.args.slot c.args.role c.args.first (c.words.done + 1) k.result) e
+          k.ensures.cells;
+      followed = k.ensures.followed;
       known = c.touch.ensures.known;
     }
 
 pub words-preserved : goal.words-preserved
 words-preserved g c =
-    let k = c.cover_known-done in
-    let w = c.words.invariant.within in
-    let h = k.ensures.count in
+    let m = g.S.Space.message c.args.space.now in
+    let i = c.words.invariant in
+    let n = c.requires.within in
+    let t = c.words-test.true in
+    let b = c.words.auto.cells in
+    let d = c.follow.auto.cells in
+    let l : c.args.first + c.words.done < length c.words.cells = omega arith in
     record {
       within = omega arith;
-      cells = laid-next (g.S.Space.message c.args.space.now) _ (run c.args.slot c.args.role c.args.first c.words.done)
-          (run c.args.slot c.args.role (c.args.first + c.words.done) k.result) c.follow.new.cells c.words.cells _
-          (run-add c.args.slot c.args.role c.args.first c.words.done k.result) c.words.invariant.cells
-          k.ensures.cells;
-      followed = k.ensures.followed;
-      known = c.words.invariant.known;
+      cells = one-more m c.args.slot c.args.role c.args.first c.words.done c.follow.new.cells c.words.cells _ i.cells
+          i.followed c.touch.ensures.cells;
+      followed = rw c.touch.ensures.cells (still-followed m (c.args.first + c.words.done) c.args.slot c.args.role
+          c.args.slot c.words.cells l i.followed);
+      known = c.touch.ensures.known;
     }
 
 pub returns-clause-cells : goal.returns-clause-cells

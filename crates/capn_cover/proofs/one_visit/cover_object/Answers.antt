@@ -1,4 +1,4 @@
-use Rattle.std.proofs.Common.{Result, Ok, refl, ap, sym, ◌∙◌, arith}
+use Rattle.std.proofs.Common.{Result, ap, sym, ◌∙◌, arith}
 use Rattle.capn_target.specs.declared.target.Target.{Target}
 use Rattle.capn_target.specs.declared.target.Fault.{Fault}
 use Rattle.capn_target.specs.declared.target.Target.TheVariants as targets
@@ -9,11 +9,9 @@ use Rattle.capn_cover.specs.Covers.{covers, pad_run, content_run}
 use Rattle.capn_cover.specs.inner.Laid.{laid}
 use Rattle.capn_cover.proofs.Before.{within}
 use Rattle.capn_cover.proofs.KnownWords.{known-first, known-second}
-use Rattle.capn_cover.proofs.Rooms.{laid-next, room-second}
-use Rattle.capn_cover.proofs.Runs.{content-length}
 use Rattle.capn_cover.proofs.SlotPlaces.{below-total}
 use Rattle.capn_cover.proofs.Together.{repeated, visit-together}
-use Rattle.capn_cover.proofs.cover_visits.cover_object.Goals as goal
+use Rattle.capn_cover.proofs.one_visit.cover_object.Goals as goal
 
 pub number_of-first-requires-clause-exists : goal.number_of-first-requires-clause-exists
 number_of-first-requires-clause-exists g c =
@@ -30,15 +28,15 @@ number_of-first-requires-clause-within g c =
     let w = i.0.within in
     omega arith
 
-pub cover_content-requires-clause-fits : goal.cover_content-requires-clause-fits
-cover_content-requires-clause-fits g c =
+pub cover_first-requires-clause-fits : goal.cover_first-requires-clause-fits
+cover_first-requires-clause-fits g c =
     let m = g.S.Space.message c.args.space.now in
     let i = found-inside m c.args.at (targets.Content c.args.segment c.args.start c.args.shape c.args.pads)
     c.requires.place c.requires.leads in
     i.1
 
-pub cover_content-requires-clause-within : goal.cover_content-requires-clause-within
-cover_content-requires-clause-within g c =
+pub cover_first-requires-clause-within : goal.cover_first-requires-clause-within
+cover_first-requires-clause-within g c =
     let m = g.S.Space.message c.args.space.now in
     let i = found-inside m c.args.at (targets.Content c.args.segment c.args.start c.args.shape c.args.pads)
     c.requires.place c.requires.leads in
@@ -48,20 +46,11 @@ cover_content-requires-clause-within g c =
     let e = c.requires.each in
     omega arith
 
-pub cover_content-requires-clause-room : goal.cover_content-requires-clause-room
-cover_content-requires-clause-room g c =
-    let m = g.S.Space.message c.args.space.now in
-    let at = c.args.at in
-    let i = found-inside m at (targets.Content c.args.segment c.args.start c.args.shape c.args.pads)
-    c.requires.place c.requires.leads in
-    let first = number m (record { segment = c.args.segment; word = c.args.start }) in
+pub cover_first-requires-clause-room : goal.cover_first-requires-clause-room
+cover_first-requires-clause-room g c =
     let s = c.number_of-slot.ensures in
-    let pads = rw s at c.cover_pads.ensures in
-    let h = room-second m (covers m at (Ok (targets.Content c.args.segment c.args.start c.args.shape c.args.pads)))
-    (pad_run m (number m at) c.args.pads (pointer_in m at.segment at.word))
-    (content_run (number m at) first c.args.shape) c.args.cells.now _ refl pads c.requires.room in
-    let n = content-length (number m at) first c.args.shape i.1 in
-    rw n at h
+    let f = c.number_of-first.ensures in
+    rw (s, f) c.requires.room
 
 pub is_repeated-requires : goal.is_repeated-requires
 is_repeated-requires g c =
@@ -142,27 +131,16 @@ returns-then-is_repeated-clause-known g c =
 
 pub returns-clause-cells : goal.returns-clause-cells
 returns-clause-cells g c =
-    let m = g.S.Space.message c.args.space.now in
-    let at = c.args.at in
     let s = c.number_of-slot.ensures in
     let f = c.number_of-first.ensures in
-    let pads = rw s at c.cover_pads.ensures in
-    let content = rw (s, f) at c.cover_content.ensures in
-    laid-next m _ (pad_run m (number m at) c.args.pads (pointer_in m at.segment at.word))
-    (content_run (number m at) (number m (record { segment = c.args.segment; word = c.args.start })) c.args.shape)
-    c.args.cells.now _ _ refl pads content
+    rw (s, f) at c.cover_first.ensures
 
 pub returns-clause-known : goal.returns-clause-known
 returns-clause-known g c =
     let m = g.S.Space.message c.args.space.now in
-    let at = c.args.at in
     let s = c.number_of-slot.ensures in
     let f = c.number_of-first.ensures in
-    let pads = rw s at c.cover_pads.ensures in
-    let content = rw (s, f) at c.cover_content.ensures in
-    let e = laid-next m _ (pad_run m (number m at) c.args.pads (pointer_in m at.segment at.word))
-    (content_run (number m at) (number m (record { segment = c.args.segment; word = c.args.start })) c.args.shape)
-    c.args.cells.now _ _ refl pads content in
-    visit-together m at c.args.cells.now _ c.requires.place
-    (e ∙ ap (λ (r : Result Target Fault). laid m (covers m at r) c.args.cells.now) (sym c.requires.leads))
+    let e = rw (s, f) at c.cover_first.ensures in
+    visit-together m c.args.at c.args.cells.now _ c.requires.place
+    (e ∙ ap (λ (r : Result Target Fault). laid m (covers m c.args.at r) c.args.cells.now) (sym c.requires.leads))
     c.requires.known

@@ -6,7 +6,7 @@ use Rattle.capn_cover.proofs.Before.{within}
 use Rattle.capn_cover.proofs.LaidItems.{room-less}
 use Rattle.capn_cover.proofs.Pads.{pad-inside}
 use Rattle.capn_cover.proofs.Runs.{run-length}
-use Rattle.capn_cover.proofs.cover_visits.cover_pads.Goals as goal
+use Rattle.capn_cover.proofs.one_visit.cover_pads.Goals as goal
 
 pub number_of-first-requires-clause-exists : goal.number_of-first-requires-clause-exists
 number_of-first-requires-clause-exists g c =

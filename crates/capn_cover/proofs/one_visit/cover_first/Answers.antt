@@ -1,0 +1,44 @@
+use Rattle.std.proofs.Common.{◌∙◌, ◌++◌, List, length, refl, ap, arith}
+use Rattle.capn_target.specs.Target.{pointer_in}
+use Rattle.capn_cover.specs.declared.covered.Covered.{Covered}
+use Rattle.capn_cover.specs.Covers.{pad_run, content_run}
+use Rattle.capn_cover.proofs.LaidItems.{laid-length}
+use Rattle.capn_cover.proofs.Rooms.{laid-next, room-first, room-second}
+use Rattle.capn_cover.proofs.Runs.{content-length}
+use Rattle.capn_cover.proofs.one_visit.cover_first.Goals as goal
+
+pub cover_pads-requires-clause-room : goal.cover_pads-requires-clause-room
+cover_pads-requires-clause-room g c =
+    let m = g.S.Space.message c.args.space.now in
+    let at = c.args.at in
+    let pads = pad_run m c.args.slot c.args.pads (pointer_in m at.segment at.word) in
+    let content = content_run c.args.slot c.args.first c.args.shape in
+    room-first (pads ++ content) pads content c.args.cells.now refl c.requires.room
+
+pub cover_content-requires-clause-within : goal.cover_content-requires-clause-within
+cover_content-requires-clause-within g c =
+    let m = g.S.Space.message c.args.space.now in
+    let at = c.args.at in
+    let n = ap (λ (xs : List Covered). length xs) c.cover_pads.ensures
+    ∙ laid-length m (pad_run m c.args.slot c.args.pads (pointer_in m at.segment at.word)) c.args.cells.now in
+    let w = c.requires.within in
+    omega arith
+
+pub cover_content-requires-clause-room : goal.cover_content-requires-clause-room
+cover_content-requires-clause-room g c =
+    let m = g.S.Space.message c.args.space.now in
+    let at = c.args.at in
+    let pads = pad_run m c.args.slot c.args.pads (pointer_in m at.segment at.word) in
+    let content = content_run c.args.slot c.args.first c.args.shape in
+    let h = room-second m (pads ++ content) pads content c.args.cells.now _ refl c.cover_pads.ensures
+    c.requires.room in
+    let n = content-length c.args.slot c.args.first c.args.shape c.requires.fits in
+    rw n at h
+
+pub returns : goal.returns
+returns g c =
+    let m = g.S.Space.message c.args.space.now in
+    let at = c.args.at in
+    laid-next m _ (pad_run m c.args.slot c.args.pads (pointer_in m at.segment at.word))
+    (content_run c.args.slot c.args.first c.args.shape) c.args.cells.now _ _ refl c.cover_pads.ensures
+    c.cover_content.ensures
