@@ -26,7 +26,7 @@ use Rattle.capn_path.specs.inner.Numbered.{found_at, one_less}
 
 -- ---- visits are counted down
 
-counted-here : (aim : Numbered) (at : Place) (named : Result Target Fault) → found_at aim at named ≡ None
+pub counted-here : (aim : Numbered) (at : Place) (named : Result Target Fault) → found_at aim at named ≡ None
     → aim.left ≡ 0 → ⊥
 counted-here aim at named e z =
     pick (λ (o : Option Place). o ≡ None → ⊥) (aim.left == 0) (Some at) None

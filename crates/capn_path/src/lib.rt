@@ -6,6 +6,8 @@
 //! - [`path_of_refusal`] surveys a message. If the message is refused, the result is the reason, and the path to the
 //!   slot at which the walk stopped.
 //! - [`path_of_stop`] finds the path to the slot at which a walk has stopped.
+//! - [`path_of_stop_counted`] finds the path to the slot of a stop in a message whose reads are counted. The number of
+//!   visits bounds the number of reads.
 //! - [`path_of_visit`] finds the path to the slot of a visit, given the number of the visit.
 //! - [`holder_of`] finds the object that holds the slot to which a path leads.
 //! - [`seek`] finds the first slot at which an [`Aim`] finds something, and the path to that slot.
@@ -28,6 +30,6 @@ mod visit;
 
 pub use aim::Aim;
 pub use holder::{Holder, holder_of};
-pub use refusal::{Refused, path_of_refusal, path_of_stop};
+pub use refusal::{Refused, path_of_refusal, path_of_stop, path_of_stop_counted};
 pub use search::seek;
 pub use visit::{Visited, path_of_visit};

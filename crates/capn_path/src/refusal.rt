@@ -1,13 +1,15 @@
 //! The path to the slot at which the walk of a refused message stopped.
 
-ghost use Rattle.std.specs.Prelude.{IfOk, IfSome, IfNone, ◌-◌};
+ghost use Rattle.std.specs.Prelude.{IfOk, IfSome, IfNone, ◌-◌, ◌≤◌, ◌+◌, ◌*◌};
 ghost use Rattle.capn_walk.specs.Accepted.{IsAccepted, IsWalkRefused};
 ghost use Rattle.capn_path.specs.Paths.{IsRefusedAt};
 
-use crate::visit::path_of_visit;
+use crate::visit::{path_of_visit, path_of_visit_counted};
+use capn_target::counted::{CountedSpace, Reads};
 use capn_walk::{Limits, Stopped, survey};
 use capn_words::{Memory, Space};
 use std::alloc::{Allocator, Global};
+use std::sync::ledger::Ledger;
 
 /// The refusal of a message: the stop of the walk, and the path to the slot at which the walk stopped.
 #[derive(Debug, Drop)]
@@ -62,6 +64,32 @@ pub fn path_of_stop<S: Space, A: Allocator + Copy>(
         return Ok(Vec::new(alloc));
     }
     match path_of_visit(alloc, space, limits, stopped.visits - 1)? {
+        Some(visited) => Ok(visited.path),
+        None => unreachable!(),
+    }
+}
+
+/// Finds the path to the slot at which the walk of the message `space` stopped, and counts reads and turns of loops in
+/// `reads`. The results are those of [`path_of_stop`].
+///
+/// The count grows by at most ten for each visit of the stopped walk, including the refused visit. So the budget of the
+/// walk bounds the work for any message.
+#[inline(always)]
+pub fn path_of_stop_counted<S: Space, A: Allocator + Copy, L: Ledger>(
+    alloc: A,
+    space: &CountedSpace<'_, S, L>,
+    limits: Limits,
+    stopped: Stopped,
+    reads: &mut Reads<L>,
+) -> Result<Vec<u32, A>, Memory>
+    requires refused { IsWalkRefused space.now limits stopped.fault stopped.place stopped.paid stopped.visits }
+    ensures path { IfOk result (λ path. IsRefusedAt space.now limits stopped path.items) }
+    ensures reads { reads.new ≤ reads.old + 10 * stopped.visits }
+{
+    if stopped.visits == 0 {
+        return Ok(Vec::new(alloc));
+    }
+    match path_of_visit_counted(alloc, space, limits, stopped.visits - 1, reads)? {
         Some(visited) => Ok(visited.path),
         None => unreachable!(),
     }

@@ -1,14 +1,16 @@
 //! The path to the slot of a visit.
 
-ghost use Rattle.std.specs.Prelude.{◌<◌, IfOk, IfSome, IfNone, OnErr};
+ghost use Rattle.std.specs.Prelude.{◌<◌, ◌≤◌, ◌+◌, ◌*◌, IfOk, IfSome, IfNone, OnErr};
 ghost use Rattle.capn_path.specs.Paths.{IsVisited, IsNotVisited};
 
 use crate::aim::Aim;
-use crate::search::seek;
+use crate::search::{seek, seek_counted};
+use capn_target::counted::{self, CountedSpace, Reads};
 use capn_target::{Fault, Target, segment_length};
 use capn_walk::Limits;
 use capn_words::{Memory, Place, Space};
 use std::alloc::{Allocator, Global};
+use std::sync::ledger::Ledger;
 
 /// A slot that a walk visits, and the path to that slot.
 #[derive(Debug, Drop)]
@@ -66,6 +68,38 @@ pub fn path_of_visit<S: Space, A: Allocator + Copy>(
         return Ok(None);
     }
     match seek(alloc, space, limits.depth(), Numbered { left: number })? {
+        Some((place, path)) => Ok(Some(Visited { path, place })),
+        None => Ok(None),
+    }
+}
+
+/// Finds the slot that the walk of the message `space` visits after `number` other visits, and the path to that slot.
+/// Counts reads and turns of loops in `reads`. The results are those of [`path_of_visit`].
+///
+/// The count grows by at most ten for each visit up to that slot.
+#[inline(always)]
+pub fn path_of_visit_counted<S: Space, A: Allocator + Copy, L: Ledger>(
+    alloc: A,
+    space: &CountedSpace<'_, S, L>,
+    limits: Limits,
+    number: u32,
+    reads: &mut Reads<L>,
+) -> Result<Option<Visited<A>>, Memory>
+    ensures found { IfOk result (λ r. IfSome r (λ v. IsVisited space.now limits number v.path.items v.place)) }
+    ensures none { IfOk result (λ r. IfNone r (IsNotVisited space.now limits number)) }
+    ensures memory { OnErr result (0 < number) }
+    ensures reads { reads.new ≤ reads.old + 10 * (number + 1) }
+{
+    if counted::segment_length(space, Place::ROOT.segment, reads) == 0 {
+        return Ok(None);
+    }
+    match seek_counted(
+        alloc,
+        space,
+        limits.depth(),
+        Numbered { left: number },
+        reads,
+    )? {
         Some((place, path)) => Ok(Some(Visited { path, place })),
         None => Ok(None),
     }
