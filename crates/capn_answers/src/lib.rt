@@ -1,7 +1,8 @@
 //! Calls that explain why one message, in any of the three forms, is refused or is not canonical.
 //!
 //! - [`walk_in`] returns the survey of an accepted message. If the walk is refused, the call returns the reason and the
-//!   path to the slot at which the walk stopped.
+//!   path to the slot at which the walk stopped. [`walk_in_of`] is the same call on any [`capn_canon::AskedInput`], so
+//!   a clause bounds how often the message is read.
 //! - [`mismatch_and_survey_in`] finds the first reason why an accepted message is not canonical, such as the first word
 //!   that differs from the canonical bytes. It also returns the survey of the message.
 //! - [`lines_in`] writes the lines of an accepted message as records of numbers: for words one after another that are
@@ -27,7 +28,7 @@ mod walked;
 pub use line_input::{Annotated, lines_in};
 pub use line_record::CapnLine;
 pub use mismatch_input::{SurveyedMismatch, mismatch_and_survey_in};
-pub use path_input::walk_in;
+pub use path_input::{walk_in, walk_in_of};
 pub use walked::Walked;
 
 // The types that the signatures of this crate name.

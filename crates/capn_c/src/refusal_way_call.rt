@@ -1,6 +1,6 @@
 //! The call `capn_refusal_way`, which finds the path to the slot at which the walk of a message is refused.
 
-ghost use Rattle.std.specs.Prelude.{IsTrue, ◌≡◌, ◌⊎◌, ◌↔◌, ◌<◌, ◌≤◌, ◌*◌, ℕ, List};
+ghost use Rattle.std.specs.Prelude.{IsTrue, ◌≡◌, ◌⊎◌, ◌↔◌, ◌<◌, ◌≤◌, ◌+◌, ◌*◌, ℕ, List};
 ghost use Rattle.capn_value.specs.Tree.{Tree as Value};
 ghost use Rattle.capn_walk.specs.Accepted.{IsBounded};
 ghost use Rattle.capn_walk.specs.declared.survey_answer.Surveyed.{Surveyed as Survey};
@@ -19,36 +19,38 @@ use crate::path_numbers::tell_path;
 use capn_abi::{
     BAD_FORM, CapnLimits, CapnReport, DONE, answer_of, form_of, limits_of, refuse, report_at,
 };
-use capn_answers::{Walked, walk_in};
-use capn_canon::Form;
+use capn_answers::{Walked, walk_in_of};
+use capn_canon::{AskedInput, Form};
 use capn_walk::Limits;
 use std::alloc::Global;
 
-/// Walks the message that `bytes` encode in `form`. Reports the survey, or the path to the stop of the walk.
-fn refusal_way(
+/// Walks the message that `bytes` encode in `form`. Reports the survey, or the path to the stop of the walk. The
+/// clause `work` bounds how often the message is read.
+fn refusal_way<B: AskedInput>(
     alloc: Global,
     form: Form,
-    bytes: &[u8],
+    bytes: B,
     limits: Limits,
     way: &mut [u32],
     report: &mut CapnReport,
 ) -> u32
+    requires work { B.allows bytes (24 * (limits.budget + 1) + 1 + 1) }
     ensures possible { (result ≡ 0) ⊎ (8 ≤ result) }
-    ensures found { result ≡ 0 → (s : Survey) × Surveys form bytes.now limits s
+    ensures found { result ≡ 0 → (s : Survey) × Surveys form (B.bytes bytes) limits s
         × (report.new ≡ answered 0 s.paid s.visits) }
-    ensures only { (v : Value) → Denotes form bytes.now limits v → (result ≡ 0) ⊎ (result ≡ 8) }
+    ensures only { (v : Value) → Denotes form (B.bytes bytes) limits v → (result ≡ 0) ⊎ (result ≡ 8) }
     ensures listed { IsTrue (is_status result) }
     ensures refused { 8 ≤ result → result < 64 → (e : Refusals) × Reports result report.new e
-        × IsUnacceptedIn form bytes.now limits e }
-    ensures told { 64 ≤ result → (s : Stop) × (numbers : List ℕ) × IsStoppedIn form bytes.now limits s numbers
+        × IsUnacceptedIn form (B.bytes bytes) limits e }
+    ensures told { 64 ≤ result → (s : Stop) × (numbers : List ℕ) × IsStoppedIn form (B.bytes bytes) limits s numbers
         × TellsPath result report.new s numbers way.old way.new }
     ensures short { 64 ≤ result → report.new.length ≤ 8 * limits.depth }
-    ensures memory { result ≡ 8 → MayNeedItsPath form bytes.now limits }
+    ensures memory { result ≡ 8 → MayNeedItsPath form (B.bytes bytes) limits }
     ensures bounded { IsBounded limits.budget report.new.paid report.new.visits }
     ensures kept { result < 64 → way.new ≡ way.old }
 {
     let _depth = limits.depth();
-    match walk_in(alloc, form, bytes, limits) {
+    match walk_in_of(alloc, form, bytes, limits) {
         Ok(walked) => match walked {
             Walked::Accepted(surveyed) => {
                 *report = answer_of(0, surveyed.paid, surveyed.visits);
