@@ -2,10 +2,11 @@
 use Rattle.std.proofs.Common.{◌≡◌, ◌≢◌, ◌⊎◌, inl, inr, ℕ, ◌==◌, List, Bool, true, false, Result, Ok, Err, refl}
 use Rattle.std.proofs.Common.{ap, sym, subst, IsErrAnd, arith}
 use Rattle.std.proofs.lemmas.Bool.Decides.{nat_tests}
-use Rattle.capn_walk.specs.Accepted.{IsWalkRefused}
+use Rattle.capn_walk.specs.Accepted.{IsAccepted, IsWalkRefused}
 use Rattle.capn_walk.specs.declared.walk_answer.Stopped.{Stopped}
 use Rattle.capn_target.specs.declared.target.Fault.TheVariants as walk_faults
 use Rattle.capn_canon.specs.declared.refusal.Refusal.TheVariants as refusals
+use Rattle.capn_canon.proofs.shared.NotRefused.{accepted-not_refused}
 use Rattle.capn_serve.specs.declared.position.Position.{Position}
 use Rattle.capn_serve.specs.declared.fault.ServeFault.{ServeFault}
 use Rattle.capn_serve.specs.declared.fault.ServeFault.TheVariants as faults
@@ -37,9 +38,12 @@ module _ (s : AnnotateOrder) (at : Position) (frame : List ℕ) (m : List (List 
   does_text (Err faults.Io) text is ((count, breaks), broken) = ((text, s, count, (is, refl), breaks), broken)
   does_text (Err (faults.Refused r)) text is none = absurd none
 
-  pub does_annotation : (r : Ending) → AddsAnnotation (IsAnnotation s at frame m) a b failed r → Does r
-  does_annotation r (inl (text, is, adds)) = does_text r text is adds
-  does_annotation r (inr (memory, none, fine)) = subst Does (sym memory) (inl none, fine)
+  pub does_annotation : (r : Ending) → IsAccepted m s.limits
+      → AddsAnnotation (IsAnnotation s at frame m) a b failed r → Does r
+  does_annotation r accepted (inl (text, is, adds)) = does_text r text is adds
+  does_annotation r accepted (inr (memory, none, fine)) =
+      subst Does (sym memory)
+      (inl (none, λ e refused. accepted-not_refused m s.limits refused.0 accepted refused.2), fine)
 
 module _ (s : AnnotateOrder) (at : Position) (frame : List ℕ) (m : List (List ℕ)) (a : Outgoing) (failed : Bool)
     (fine : failed ≡ false) where
@@ -52,11 +56,12 @@ module _ (s : AnnotateOrder) (at : Position) (frame : List ℕ) (m : List (List 
       ⊎ ((stop.fault ≢ walk_faults.Memory) × (fault ≡ faults.Refused (refusals.Walk stop)))
       → (stop.fault ≡ walk_faults.Memory)
       ⊎ IsWalkRefused m s.limits stop.fault stop.place stop.paid stop.visits
-      → Stops (stopped fault)
-  does_stop stop fault (inl (memory, is)) why =
-      subst (λ (f : ServeFault). Stops (stopped f)) (sym is) (inl (added_none a), fine)
-  does_stop stop fault (inr (other, is)) (inl memory) = absurd (other memory)
-  does_stop stop fault (inr (other, is)) (inr why) =
+      → (stop.fault ≡ walk_faults.Memory → IsAccepted m s.limits) → Stops (stopped fault)
+  does_stop stop fault (inl (memory, is)) why accepted =
+      subst (λ (f : ServeFault). Stops (stopped f)) (sym is)
+      (inl (added_none a, λ e refused. accepted-not_refused m s.limits refused.0 (accepted memory) refused.2), fine)
+  does_stop stop fault (inr (other, is)) (inl memory) accepted = absurd (other memory)
+  does_stop stop fault (inr (other, is)) (inr why) accepted =
       subst (λ (f : ServeFault). Stops (stopped f)) (sym is) ((stop, refl, why), added_none a, fine)
 
 -- An allocation was refused before anything was added.

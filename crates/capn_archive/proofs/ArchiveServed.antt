@@ -29,8 +29,7 @@ module _ (order : ArchiveOrder) (tally : Tally) (at : Position) (frame : List �
       → ((e : Refusal) → r ≡ stopped (faults.Refused e) → order.keep_going ≡ false)
       → AddsOne serves refuses (state order tally) at frame message a b failed r (state order after)
   served_does after a b failed (Ok u) (text, is, adds, fine) ends = (text, (refl, inl is), adds, fine)
-  served_does after a b failed (Err faults.Memory) (inl none, fine) ends = (inl none, fine)
-  served_does after a b failed (Err faults.Memory) (inr (text, t, count, is, adds), fine) ends =
+  served_does after a b failed (Err faults.Memory) ((text, t, count, is, adds), fine) ends =
       (inr (text, state order t, count, (refl, inl is), adds), fine)
   served_does after a b failed (Err faults.Io) ((text, t, count, is, breaks), broken) ends =
       ((text, state order t, count, (refl, inl is), breaks), broken)

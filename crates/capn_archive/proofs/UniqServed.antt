@@ -16,9 +16,12 @@ use Rattle.capn_archive.specs.CanonicalFrame.{AddsText}
 use Rattle.capn_serve.specs.declared.skipped.SkippedSoFar.{SkippedSoFar}
 use Rattle.capn_archive.specs.declared.uniq_order.UniqOrder.{UniqOrder}
 use Rattle.capn_serve.specs.Skipped.{one_more}
+use Rattle.capn_canon.specs.MemoryNeed.{MayNeedBytes}
 use Rattle.capn_archive.specs.Digest.{IsDigest, IsUndigested}
+use Rattle.capn_archive.specs.Tasks.{Finds}
 use Rattle.capn_archive.specs.UniqMessages.{UniqState, IsSkipped, Deduplicates, and_one, has, one_served, refuses}
 use Rattle.capn_archive.specs.UniqMessages.{serves, kept_text, TriesToDeduplicate}
+use Rattle.capn_archive.proofs.FramesAdded.{some_digest}
 
 -- The state of the service with `order`, `digests`, `served` and `skipped`.
 abbrev pub state : UniqOrder → FinSet (slice_cmp nat_cmp) → ℕ → Option SkippedSoFar → UniqState
@@ -58,7 +61,7 @@ module _ (s : UniqState) (frame : List ℕ) (message : List (List ℕ)) (a b : O
   pub kept_added : (t : UniqState) (text : List ℕ) → Deduplicates s frame message text t → (r : Ending)
       → AddsText text a b failed r → TriesToDeduplicate s frame message a b failed r t
   kept_added t text is (Ok u) (adds, fine, short) = (text, is, adds, fine, short)
-  kept_added t text is (Err faults.Memory) ((count, adds), fine) = (inr (text, t, count, is, adds), fine)
+  kept_added t text is (Err faults.Memory) ((count, adds), fine) = ((text, t, count, is, adds), fine)
   kept_added t text is (Err faults.Io) ((count, breaks), broken) = ((text, t, count, is, breaks), broken)
   kept_added t text is (Err (faults.Refused r)) none = absurd none
 
@@ -67,8 +70,7 @@ module _ (s : UniqState) (frame : List ℕ) (message : List (List ℕ)) (a b : O
       → ((e : Refusal) → r ≡ stopped (faults.Refused e) → s.order.keep_going ≡ false)
       → DoesService serves refuses s at frame message a b failed r t
   tried_does t at (Ok u) (text, is, adds, fine, short) ends = ((text, inl is, adds, fine), short)
-  tried_does t at (Err faults.Memory) (inl none, fine) ends = (inl none, fine)
-  tried_does t at (Err faults.Memory) (inr (text, u, count, is, adds), fine) ends =
+  tried_does t at (Err faults.Memory) ((text, u, count, is, adds), fine) ends =
       (inr (text, u, count, inl is, adds), fine)
   tried_does t at (Err faults.Io) ((text, u, count, is, breaks), broken) ends =
       ((text, u, count, inl is, breaks), broken)
@@ -91,9 +93,31 @@ module _ (s : UniqState) (frame : List ℕ) (message : List (List ℕ)) (a b : O
       subst (λ (e : ServeFault). TriesToDeduplicate s frame message a b failed (stopped e) t) same tried
 
   -- Case: if an allocation was refused before anything was added, `TriesToDeduplicate` holds.
-  pub memory_refused : (t : UniqState) (fault : ServeFault) (r : Ending) → IsErrAnd r (λ e. e ≡ fault)
-      → fault ≡ faults.Memory → Adds a b [] → failed ≡ false → TriesToDeduplicate s frame message a b failed r t
-  memory_refused t fault (Ok u) told is none fine = absurd told
-  memory_refused t fault (Err faults.Memory) told is none fine = (inl none, fine)
-  memory_refused t fault (Err faults.Io) told is none fine = absurd (cc)
-  memory_refused t fault (Err (faults.Refused r)) told is none fine = absurd (cc)
+  pub memory_refused : (t : UniqState) (digest : List ℕ) → IsDigest message s.order.limits digest → (fault : ServeFault)
+      (r : Ending) → IsErrAnd r (λ e. e ≡ fault) → fault ≡ faults.Memory → Adds a b [] → failed ≡ false
+      → TriesToDeduplicate s frame message a b failed r t
+  memory_refused t digest has fault (Ok u) told is none fine = absurd told
+  memory_refused t digest has fault (Err faults.Memory) told is none fine =
+      ((_, _, 0, (digest, has, refl, refl), none), fine)
+  memory_refused t digest has fault (Err faults.Io) told is none fine = absurd (cc)
+  memory_refused t digest has fault (Err (faults.Refused r)) told is none fine = absurd (cc)
+
+  abbrev Found : ServeFault → Type 0
+  Found f =
+      Finds (λ (d : List ℕ). IsDigest message s.order.limits d) (λ r. IsUndigested message s.order.limits r)
+      (MayNeedBytes message s.order.limits) (Err f)
+
+  stops : b ≡ a → failed ≡ false → (f : ServeFault) → Found f
+      → TriesToDeduplicate s frame message a b failed (stopped f) s
+  stops same fine faults.Memory needs =
+      let made = some_digest message s.order.limits needs in
+      let none = subst (λ (x : Outgoing). Adds a x []) (sym same) (added_none a) in
+      ((_, _, 0, (made.0, made.1, refl, refl), none), fine)
+  stops same fine faults.Io none = absurd none
+  stops same fine (faults.Refused r) (why, other) = (why, same, refl, fine)
+
+  -- Case: the message has no digest, or memory for its canonical bytes was refused.
+  pub undigested_does : b ≡ a → failed ≡ false → (fault : ServeFault) → Found fault → (r : Ending)
+      → IsErrAnd r (λ e. e ≡ fault) → TriesToDeduplicate s frame message a b failed r s
+  undigested_does same fine fault none (Ok u) told = absurd told
+  undigested_does same fine fault none (Err e) told = stops same fine e (subst Found (sym told) none)

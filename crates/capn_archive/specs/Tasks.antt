@@ -82,7 +82,8 @@ abbrev pub refuses : ArchiveService → Position → List ℕ → List (List ℕ
 refuses s at frame message r = (s.order.keep_going ≡ false) × IsRefusedBy s.order.task message s.order.limits r
 
 -- After `Ok`, the `text` of `message` was added. After `Refused`, the output and the tally are unchanged. After
--- `Memory`, nothing or a prefix of `text` was added, and after `Io`, a prefix of `old.kept ++ text` was written.
+-- `Memory`, `message` is not refused, and a prefix of `text` was added. After `Io`, a prefix of `old.kept ++ text` was
+-- written.
 abbrev pub AddsServed : Task → Bounds → Tally → Position → List ℕ → List (List ℕ) → Outgoing → Outgoing → Bool
     → Result (Unit {0}) ServeFault → Tally → Type 0
 AddsServed task limits tally at frame message old new failed (Ok u) tally_after =

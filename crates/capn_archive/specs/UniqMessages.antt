@@ -86,8 +86,8 @@ InsertsDigest old new digest (Ok is_duplicate) = (is_duplicate ≡ has old diges
 InsertsDigest old new digest (Err fault) = fault ≡ faults.Memory
 
 -- After `Ok`, `message` was served, and its `text` was added. After `Refused`, `message` has no digest, and the output
--- and the state are unchanged. After `Memory`, nothing or a prefix of `text` was added, and after `Io`, a prefix of
--- `old.kept ++ text` was written.
+-- and the state are unchanged. After `Memory`, `message` has a digest, and a prefix of `text` was added. After `Io`, a
+-- prefix of `old.kept ++ text` was written.
 abbrev pub TriesToDeduplicate : UniqState → List ℕ → List (List ℕ) → Outgoing → Outgoing → Bool
     → Result (Unit {0}) ServeFault → UniqState → Type 0
 TriesToDeduplicate s frame message old new failed (Ok u) t =

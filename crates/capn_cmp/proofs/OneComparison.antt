@@ -34,7 +34,8 @@ module _ (m : List (List ℕ)) (limits : Bounds) where
   one_form a b (p, h) (q, k) =
       h.canonical ∙ ap canon (unique m h.value k.value root h.is.is k.is.is) ∙ sym k.canonical
 
-  not_formed : (bytes : List ℕ) (price : ℕ) (r : Refusal) → AnswersMessage m limits bytes price
+  -- A message with canonical bytes is not refused.
+  pub not_formed : (bytes : List ℕ) (price : ℕ) (r : Refusal) → AnswersMessage m limits bytes price
       → IsRefusedMessage m limits r → (r ≡ refusals.Memory → ⊥) → ⊥
   not_formed bytes price r a h other = elim (message_part m limits r other h) [
     | inl p ↦ accepted-not_refused m limits p.0 a.is.accepted p.2

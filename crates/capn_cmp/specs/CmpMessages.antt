@@ -85,15 +85,21 @@ refuses s at frame message r = IsRefusedMessage message s.limits r × (r ≢ ref
 abbrev pub done : CmpState → Position → Bool
 done s at = s.differs
 
+-- A comparison of the canonical bytes `bytes` may need memory: the message at the position `at` is the first, or
+-- `bytes` differ from the canonical bytes of the first message.
+abbrev pub MayNeedMemory : CmpState → Position → List ℕ → Type 0
+MayNeedMemory s at bytes = (at.index ≡ 0) ⊎ (bytes ≢ s.first)
+
 -- After `Ok`, the message with the canonical bytes `bytes` was compared, and its `text` was added. After `Memory`,
--- nothing or a prefix of `text` was added, and after `Io`, a prefix of `old.kept ++ text` was written.
+-- `MayNeedMemory` holds, and nothing or a prefix of `text` was added. After `Io`, a prefix of `old.kept ++ text` was
+-- written.
 abbrev pub TriesToCompare : CmpState → Position → List ℕ → Outgoing → Outgoing → Bool → Result (Unit {0}) ServeFault
     → CmpState → Type 0
 TriesToCompare s at bytes old new failed (Ok u) t =
     (text : List ℕ) × Compares s at bytes text t × Adds old new text × (failed ≡ false)
     × (length old.kept < 65536 → length new.kept < 65536)
 TriesToCompare s at bytes old new failed (Err faults.Memory) t =
-    AddsBeginning (Compares s at bytes) old new × (failed ≡ false)
+    (Adds old new [] ⊎ AddsBeginning (Compares s at bytes) old new) × MayNeedMemory s at bytes × (failed ≡ false)
 TriesToCompare s at bytes old new failed (Err faults.Io) t =
     BreaksWithin (Compares s at bytes) old new × (failed ≡ true)
 TriesToCompare s at bytes old new failed (Err (faults.Refused r)) t = ⊥

@@ -142,7 +142,7 @@ module _ {S : Type 0} (serves : S → Position → List ℕ → List (List ℕ) 
       subst (Appends c m) (written_front w kept [] (joined w [] e) ∙ take-nil (length w)) wrote
 
   of_memory : Does (Err serve_faults.Memory) → Serves m fine (Err faults.Memory)
-  of_memory (inl adds, good) = (inl (unwritten adds), good)
+  of_memory (inl adds, good) = (inl (unwritten adds.0), good)
   of_memory (inr (text, y, count, is, (w, wrote, e)), good) =
       let less = take_less (length w) count text in
       let front : w ≡ take less.0 text = written_front w kept (take count text) (joined w (take count text) e)

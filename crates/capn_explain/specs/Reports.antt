@@ -1,9 +1,9 @@
 -- The state of a run that explains messages, and the text about each message. (Our own.)
 use Rattle.std.specs.Prelude.{◌≡◌, ◌⊎◌, ℕ, ◌+◌, ◌<◌, nat_lt, List, [], ◌++◌, codes, Bool, true, false}
-use Rattle.std.specs.Prelude.{Option, Some, None, Result, Ok, Err, refl}
+use Rattle.std.specs.Prelude.{Option, Some, None, Result, Ok, Err, refl, ⊤}
 use Rattle.capn_words.specs.declared.memory.Memory.{Memory}
 use Rattle.capn_walk.specs.Limits.{Bounds}
-use Rattle.capn_walk.specs.Accepted.{IsAccepted}
+use Rattle.capn_walk.specs.Accepted.{IsAccepted, IsWalkRefused}
 use Rattle.capn_walk.specs.declared.walk_answer.Stopped.{Stopped}
 use Rattle.capn_canon.specs.declared.form.Form.{Form}
 use Rattle.capn_canon.specs.declared.refusal.Refusal.{Refusal}
@@ -189,10 +189,26 @@ done s at = is_explained s.outcome
 
 -- ---- the results of calls
 
--- If the result is `Ok`, `tells` holds for the empty text and the state `t`. If it is a fault, the fault is `Memory`.
-abbrev pub Keeps : {S : Type 0} → (List ℕ → S → Type 0) → Result (Unit {0}) ServeFault → S → Type 0
-Keeps tells (Ok u) t = tells [] t
-Keeps tells (Err fault) t = fault ≡ faults.Memory
+-- The walk of `message` within `limits` is refused.
+abbrev pub IsStopped : List (List ℕ) → Bounds → Type 0
+IsStopped message limits =
+    (stopped : Stopped) × IsWalkRefused message limits stopped.fault stopped.place stopped.paid stopped.visits
+
+-- A number is given, so that the message with that number is explained also if it is accepted.
+abbrev pub HasNumber : Wanted → Type 0
+HasNumber (wants.Number number) = ⊤
+HasNumber wants.First = ⊥
+HasNumber wants.Each = ⊥
+
+-- Memory may be needed for the lines of `message`: a number is given, or the walk of `message` is refused.
+abbrev pub MayNeedLines : Order → List (List ℕ) → Type 0
+MayNeedLines order message = HasNumber order.wanted ⊎ IsStopped message order.limits
+
+-- If the result is `Ok`, `tells` holds for the empty text and the state `t`. If it is a fault, the fault is `Memory`,
+-- and `needs` holds.
+abbrev pub Keeps : {S : Type 0} → (List ℕ → S → Type 0) → Type 0 → Result (Unit {0}) ServeFault → S → Type 0
+Keeps tells needs (Ok u) t = tells [] t
+Keeps tells needs (Err fault) t = (fault ≡ faults.Memory) × needs
 
 -- If the result is `Ok`, `new` is `old` and then `text`. If it is a fault, the fault is `Memory`, and `new` is `old`.
 abbrev pub PutsText : List ℕ → List ℕ → List ℕ → Result (Unit {0}) ServeFault → Type 0
@@ -207,10 +223,11 @@ PutsAccount order at message old new (Ok u) =
 PutsAccount order at message old new (Err fault) = (fault ≡ faults.Memory) × (new ≡ old)
 
 -- If the result is `Ok`, `new` is `old` and then a `text`, and `tells` holds for `text` and the state `t`. If it is a
--- fault, the fault is `Memory`, and `new` is `old`.
-abbrev pub Puts : {S : Type 0} → (List ℕ → S → Type 0) → List ℕ → List ℕ → Result (Unit {0}) ServeFault → S → Type 0
-Puts tells old new (Ok u) t = (text : List ℕ) × tells text t × (new ≡ old ++ text)
-Puts tells old new (Err fault) t = (fault ≡ faults.Memory) × (new ≡ old)
+-- fault, the fault is `Memory`, `needs` holds, and `new` is `old`.
+abbrev pub Puts : {S : Type 0} → (List ℕ → S → Type 0) → Type 0 → List ℕ → List ℕ → Result (Unit {0}) ServeFault → S
+    → Type 0
+Puts tells needs old new (Ok u) t = (text : List ℕ) × tells text t × (new ≡ old ++ text)
+Puts tells needs old new (Err fault) t = (fault ≡ faults.Memory) × needs × (new ≡ old)
 
 -- Examples of `is_before`.
 

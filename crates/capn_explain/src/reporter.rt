@@ -4,7 +4,8 @@ ghost use Rattle.std.specs.Prelude.{◌≡◌, false};
 ghost use Rattle.capn_walk.specs.Accepted.{IsWalkRefused};
 ghost use Rattle.capn_explain.specs.Reports as spec;
 ghost use Rattle.capn_explain.specs.inner.Figures.{AreFigures};
-ghost use Rattle.capn_explain.specs.Reports.{IsFirst, Keeps, Puts, ServesBy, TellsAccepted, TellsRefused};
+ghost use Rattle.capn_explain.specs.Reports.{HasNumber, IsFirst, IsStopped, Keeps, MayNeedLines, Puts, ServesBy};
+ghost use Rattle.capn_explain.specs.Reports.{TellsAccepted, TellsRefused};
 
 use crate::account::{Account, account_of};
 use crate::message_lines::{put_accepted, put_apart, told_of};
@@ -155,7 +156,8 @@ impl<B: Allocator + Copy> Reporter<B> {
         surveyed: Measured,
     ) -> Result<(), ServeFault>
         requires surveyed { AreFigures (S.message message.now) self.old.order.limits surveyed }
-        ensures { Keeps (TellsAccepted self.old at (S.message message.now)) result self.new }
+        ensures { Keeps (TellsAccepted self.old at (S.message message.now)) (HasNumber self.old.order.wanted) result
+            self.new }
     {
         let order = self.order();
         match order.wanted {
@@ -183,8 +185,8 @@ impl<B: Allocator + Copy> Reporter<B> {
     ) -> Result<(), ServeFault>
         requires refused { IsWalkRefused (S.message message.now) self.old.order.limits
             stopped.fault stopped.place stopped.paid stopped.visits }
-        ensures { Puts (TellsRefused self.old at (S.message message.now)) text.old.items text.new.items result
-            self.new }
+        ensures { Puts (TellsRefused self.old at (S.message message.now))
+            (IsStopped (S.message message.now) self.old.order.limits) text.old.items text.new.items result self.new }
     {
         let order = self.order();
         let told = told_of(self.alloc, &order, at, message, stopped)?;
@@ -209,8 +211,8 @@ impl<B: Allocator + Copy> Reporter<B> {
         message: &S,
         text: &mut Vec<u8, A>,
     ) -> Result<(), ServeFault>
-        ensures { Puts (ServesBy false self.old at (S.message message.now)) text.old.items text.new.items result
-            self.new }
+        ensures { Puts (ServesBy false self.old at (S.message message.now))
+            (MayNeedLines self.old.order (S.message message.now)) text.old.items text.new.items result self.new }
     {
         match survey_depth(alloc, message, self.order().limits) {
             Ok(surveyed) => self.report_accepted(at, message, surveyed),
@@ -227,7 +229,7 @@ impl<B: Allocator + Copy> Reporter<B> {
         text: &mut Vec<u8, A>,
     ) -> Result<(), ServeFault>
         ensures { Puts (ServesBy (spec.is_before at self.old.order.wanted) self.old at (S.message message.now))
-            text.old.items text.new.items result self.new }
+            (MayNeedLines self.old.order (S.message message.now)) text.old.items text.new.items result self.new }
     {
         if is_before(at, self.order().wanted) {
             return Ok(());

@@ -14,7 +14,7 @@ use Rattle.capn_serve.specs.declared.whole_input.WholeInput.{WholeInput}
 use Rattle.capn_serve.specs.declared.fault.RunFault.{RunFault}
 use Rattle.capn_serve.specs.declared.fault.RunFault.TheVariants as faults
 use Rattle.capn_serve.specs.Fold.{Fold, IfGoing, Leaves}
-use Rattle.capn_serve.specs.Outgoing.{Adds, AddsBeginning, Breaks, outgoing, sent}
+use Rattle.capn_serve.specs.Outgoing.{Adds, Breaks, RunsOut, outgoing, sent}
 use Rattle.capn_serve.specs.WholeInput.{HasGivenAll, IsBeginning, IsUntaken, TakesAll, most_input}
 use Rattle.capn_serve.specs.BareRun.{Begins, EndsAs, EndsBare, HasWritten, WritesBare, WritesBy, IsShortBare, IsUnbare}
 use Rattle.capn_serve.specs.BareRun.{RefusesBare, RunsBare, ServesBare}
@@ -149,8 +149,9 @@ module _ {X : Type 0} (f : Fold X) (x y : X) (going : f.done x ≡ false) (a b c
         let begun = adds_begun c (outgoing d kept) [] none in subst (Appends c d) (take-nil begun.0) begun.1
 
     beginning : (d : Option (List ℕ)) (kept words : List ℕ) → IsBare bytes words
-        → AddsBeginning (f.step x bytes (words ∷ [])) (sent c) (outgoing d kept) → HasWritten f x bytes c d
-    beginning d kept words bare (inl none) = inl (nothing d kept none)
+        → RunsOut (f.step x bytes (words ∷ [])) (f.refuses x bytes (words ∷ [])) (sent c) (outgoing d kept)
+        → HasWritten f x bytes c d
+    beginning d kept words bare (inl none) = inl (nothing d kept none.0)
     beginning d kept words bare (inr (text, mid, count, step, adds)) =
         let begun = begun_less c d count text (adds_begun c (outgoing d kept) (take count text) adds) in
         inr (text, mid, begun.0, (words, bare, step), begun.1)

@@ -13,7 +13,7 @@ use Rattle.capn_stream.proofs.shared.Longer.{IsStop-append}
 use Rattle.capn_canon.specs.declared.refusal.Refusal.TheVariants as refusals
 use Rattle.capn_serve.specs.declared.position.Position.{Position}
 use Rattle.capn_serve.specs.Fold.{Fold, Part, AreServed, AreParts, frame_of, text_of, frames_of, texts_of, IsFolded}
-use Rattle.capn_serve.specs.Outgoing.{Outgoing, Adds, AddsBeginning, Breaks, sent}
+use Rattle.capn_serve.specs.Outgoing.{Outgoing, Adds, Breaks, RunsOut, sent}
 use Rattle.capn_serve.specs.ChunkRun.{AddsMessage, Tells, TellsBegun, TellsFront, IsDueSo, Stops}
 use Rattle.capn_serve.specs.declared.fault.RunFault.{RunFault}
 use Rattle.capn_serve.specs.declared.fault.RunFault.TheVariants as faults
@@ -215,9 +215,9 @@ module _ {X : Type 0} (f : Fold X) where
       }
 
   begun_one : (x : X) (frame e : List ℕ) (message : List (List ℕ)) (a b : Outgoing) → Frames frame message
-      → total message ≤ f.most → f.done x ≡ false → AddsBeginning (f.step x frame message) a b
+      → total message ≤ f.most → f.done x ≡ false → RunsOut (f.step x frame message) (f.refuses x frame message) a b
       → TellsBegun f x (frame ++ e) a b
-  begun_one x frame e message a b is room going (inl none) = begun_none x (frame ++ e) a b none
+  begun_one x frame e message a b is room going (inl none) = begun_none x (frame ++ e) a b none.0
   begun_one x frame e message a b is room going (inr (text, mid, count, step, adds)) = (
     (record { frame = frame; message = message; text = text }) ∷ [],
     e,

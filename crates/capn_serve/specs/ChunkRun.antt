@@ -9,7 +9,7 @@ use Rattle.capn_serve.specs.declared.position.Position.{Position}
 use Rattle.capn_serve.specs.declared.fault.RunFault.{RunFault}
 use Rattle.capn_serve.specs.declared.fault.RunFault.TheVariants as faults
 use Rattle.capn_serve.specs.Fold.{Fold, Part, AreParts, IsFolded, Leaves, texts_of}
-use Rattle.capn_serve.specs.Outgoing.{Outgoing, Adds, AddsBeginning, Breaks, BreaksWithin}
+use Rattle.capn_serve.specs.Outgoing.{Outgoing, Adds, Breaks, BreaksWithin, RunsOut}
 
 module _ {X : Type 0} (f : Fold X) where
   -- Messages at the start of `stream` were served, from the state `x` to the state `y`, and their texts were added.
@@ -48,7 +48,8 @@ module _ {X : Type 0} (f : Fold X) where
     pub due : (fault ≡ faults.Memory) ⊎ ((fault ≡ faults.Io) ⊎ IsDueSo x stream old new fault left)
 
   -- After `Ok`, the `text` of `message` was added, and `y` is the next state. After `Refused`, nothing was added. After
-  -- `Memory`, nothing or a prefix of `text` was added, and after `Io`, a prefix of `old.kept ++ text` was written.
+  -- `Memory`, a prefix of `text` was added, or nothing was added for a `message` that is not refused. After `Io`, a
+  -- prefix of `old.kept ++ text` was written.
   abbrev pub AddsMessage : X → List ℕ → List (List ℕ) → Outgoing → Outgoing → Bool → Result (Unit {0}) RunFault → X
       → Type 0
   AddsMessage x frame message old new failed (Ok u) y =
@@ -56,7 +57,7 @@ module _ {X : Type 0} (f : Fold X) where
   AddsMessage x frame message old new failed (Err (faults.Refused at r)) y =
       (at ≡ f.place x) × f.refuses x frame message r × Adds old new [] × (failed ≡ false)
   AddsMessage x frame message old new failed (Err faults.Memory) y =
-      AddsBeginning (f.step x frame message) old new × (failed ≡ false)
+      RunsOut (f.step x frame message) (f.refuses x frame message) old new × (failed ≡ false)
   AddsMessage x frame message old new failed (Err faults.Io) y =
       BreaksWithin (f.step x frame message) old new × (failed ≡ true)
   AddsMessage x frame message old new failed (Err faults.InputTooLong) y = ⊥

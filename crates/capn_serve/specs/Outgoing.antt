@@ -3,6 +3,7 @@ use Rattle.std.specs.Prelude.{◌≡◌, ◌⊎◌, ℕ, ◌+◌, ◌<◌, List,
 use Rattle.std.specs.Prelude.{Result, Ok, Err}
 use Rattle.std.specs.Io.KnownBytes.{Appends}
 use Rattle.capn_words.specs.Watched.{HasBegun}
+use Rattle.capn_canon.specs.declared.refusal.Refusal.{Refusal}
 use Rattle.capn_serve.specs.declared.fault.ServeFault.{ServeFault}
 use Rattle.capn_serve.specs.declared.fault.ServeFault.TheVariants as serve_faults
 use Rattle.capn_serve.specs.declared.fault.RunFault.{RunFault}
@@ -29,10 +30,19 @@ Adds old new text = (written : List ℕ) × Appends old.taken new.taken written 
 abbrev pub Breaks : Outgoing → Outgoing → ℕ → List ℕ → Type 0
 Breaks old new count text = Appends old.taken new.taken (take count (old.kept ++ text))
 
--- Nothing was added, or a prefix of some `text` that `writes` relates to some state `y`.
+-- A prefix of some `text` was added that `writes` relates to some state `y`. The prefix may be empty.
 abbrev pub AddsBeginning : {X : Type 0} → (List ℕ → X → Type 0) → Outgoing → Outgoing → Type 0
 AddsBeginning {X = X} writes old new =
-    Adds old new [] ⊎ ((text : List ℕ) × (y : X) × (count : ℕ) × writes text y × Adds old new (take count text))
+    (text : List ℕ) × (y : X) × (count : ℕ) × writes text y × Adds old new (take count text)
+
+-- `refuses` holds for no refusal.
+abbrev pub IsUnrefused : (Refusal → Type 0) → Type 0
+IsUnrefused refuses = (r : Refusal) → refuses r → ⊥
+
+-- The output of a message for which an allocation was refused. Nothing was added, and `refuses` holds for no refusal.
+-- Or a prefix of a text was added that `writes` states.
+abbrev pub RunsOut : {X : Type 0} → (List ℕ → X → Type 0) → (Refusal → Type 0) → Outgoing → Outgoing → Type 0
+RunsOut writes refuses old new = (Adds old new [] × IsUnrefused refuses) ⊎ AddsBeginning writes old new
 
 -- A prefix of `old.kept ++ text` was written, for some `text` that `writes` relates to some state `y`.
 abbrev pub BreaksWithin : {X : Type 0} → (List ℕ → X → Type 0) → Outgoing → Outgoing → Type 0

@@ -43,7 +43,8 @@ pub trait Service {
     /// A service may append to `text`, and call [`flush_long`](crate::flush_long) at the end. For bytes that exist
     /// already a service may call [`add_bytes`](crate::add_bytes). A service with a long output may write `text` to
     /// `writer`, and then its own output chunk by chunk. A refusal is returned before the first byte of the message's
-    /// output. After `Memory` or `Io` a prefix of that output may have been added.
+    /// output. After `Memory` or `Io` a prefix of that output may have been added. `Memory` is returned only for a
+    /// message that is not refused.
     fn serve<S: Space, W: Write, A: Allocator + Copy>(
         &mut self,
         alloc: A,

@@ -1,5 +1,5 @@
 -- Lemmas for a service that adds its texts to the output of a run, by `add_bytes` or by a flush after each text.
-use Rattle.std.proofs.Common.{inl, ℕ, List, [], ◌++◌, length, Bool, take, Result, Ok, Err, sym, subst, append-nil}
+use Rattle.std.proofs.Common.{inr, ℕ, List, [], ◌++◌, length, Bool, take, Result, Ok, Err, sym, subst, append-nil}
 use Rattle.std.proofs.Math.Seq.{take-append_seam}
 use Rattle.std.specs.Io.KnownBytes.{Appends}
 use Rattle.capn_canon.specs.declared.refusal.Refusal.{Refusal}
@@ -43,7 +43,8 @@ module _ {S : Type 0} (serves : S → Position → List ℕ → List (List ℕ) 
       (r : Ending) → AddsBytes bytes old new failed r
       → DoesService serves refuses s at frame message old new failed r t
   does_add old new bytes served failed (Ok u) (adds, short, fine) = ((bytes, served, adds, fine), λ h. short)
-  does_add old new bytes served failed (Err faults.Memory) (none, short, fine) = (inl none, fine)
+  does_add old new bytes served failed (Err faults.Memory) (none, short, fine) =
+      (inr (bytes, t, 0, served, none), fine)
   does_add old new bytes served failed (Err faults.Io) ((count, breaks), broken) =
       ((bytes, t, count, served, breaks), broken)
   does_add old new bytes served failed (Err (faults.Refused r)) none = absurd none

@@ -1,6 +1,6 @@
 -- Lemmas for a service that appends its texts, and calls `flush_long` at the end of each text.
-use Rattle.std.proofs.Common.{◌≡◌, inl, ℕ, List, [], Bool, false, Option, take, Result, Ok, Err, IsErrAnd, sym, subst}
-use Rattle.std.proofs.Common.{◌∙◌, append-nil}
+use Rattle.std.proofs.Common.{◌≡◌, inl, inr, ℕ, List, [], Bool, false, Option, take, Result, Ok, Err, IsErrAnd, sym}
+use Rattle.std.proofs.Common.{subst, ◌∙◌, append-nil}
 use Rattle.std.specs.Io.KnownBytes.{Appends}
 use Rattle.std.proofs.KnownBytes.{Appends-nil}
 use Rattle.capn_canon.specs.declared.refusal.Refusal.{Refusal}
@@ -22,11 +22,14 @@ stopped fault = Err fault
 module _ {S : Type 0} (serves : S → Position → List ℕ → List (List ℕ) → List ℕ → S → Type 0)
     (refuses : S → Position → List ℕ → List (List ℕ) → Refusal → Type 0) (s t : S) (at : Position) (frame : List ℕ)
     (message : List (List ℕ)) (c : Option (List ℕ)) (old new : List ℕ) where
-  -- Case: the message is refused, or memory was refused, and nothing was appended.
+  -- Case: the message is refused, or an allocation was refused, and nothing was appended.
   put_stopped : (failed : Bool) (fault : ServeFault) → failed ≡ false
       → PutsMessage serves refuses s at frame message old new (stopped fault) t
       → DoesService serves refuses s at frame message (outgoing c old) (outgoing c new) failed (stopped fault) t
-  put_stopped failed faults.Memory fine same = (inl ([], Appends-nil c, same ∙ sym (append-nil old)), fine)
+  put_stopped failed faults.Memory fine (inl (text, u, served), same) =
+      (inr (text, u, 0, served, ([], Appends-nil c, same ∙ sym (append-nil old))), fine)
+  put_stopped failed faults.Memory fine (inr free, same) =
+      (inl (([], Appends-nil c, same ∙ sym (append-nil old)), free), fine)
   put_stopped failed faults.Io fine none = absurd none
   put_stopped failed (faults.Refused r) fine (refused, same) =
       (refused, ([], Appends-nil c, same ∙ sym (append-nil old)), fine)
