@@ -1,10 +1,12 @@
 //! Tests of the paths to slots of messages: to the slot at which a walk stops, or to the slot of a visit.
 
 use crate::words::bytes_of;
-use capn_path::{path_of_refusal, path_of_stop, path_of_visit};
-use capn_walk::{Fault, Limits, survey};
-use capn_words::{Bare, Place};
+use capn_path::{path_of_refusal, path_of_stop, path_of_stop_counted, path_of_visit};
+use capn_target::counted::{Asked, CountedSpace, CountedTask, Reads};
+use capn_walk::{Fault, Limits, Stopped, survey};
+use capn_words::{Bare, Memory, Place, Space};
 use std::alloc::Global;
+use std::sync::ledger::Ledger;
 use std::test::Fail;
 
 /// A struct whose second slot has two rows of a word and a slot. The last of these slots points out of its segment.
@@ -91,7 +93,32 @@ fn no_refusal(rt: HostRuntime) -> Result<(), Fail> {
     Ok(())
 }
 
-/// Tests whether `path` leads to the slot at which the walk of a message stops.
+/// The task that finds the path to a stop. Its `most` is the bound of `path_of_stop_counted`.
+#[derive(Drop)]
+struct PathTask {
+    alloc: Global,
+    stopped: Stopped,
+}
+
+impl CountedTask for PathTask {
+    type Told = Result<Vec<u32>, Memory>;
+
+    ghost use Rattle.std.specs.Prelude.{◌*◌, ⊤};
+
+    ghost tells = { λ t m r. ⊤ };
+
+    ghost most = { λ t. 10 * t.stopped.visits };
+
+    fn run<S: Space, L: Ledger>(
+        self,
+        space: &CountedSpace<'_, S, L>,
+        reads: &mut Reads<L>,
+    ) -> Result<Vec<u32>, Memory> {
+        path_of_stop_counted(self.alloc, space, Limits::usual(), self.stopped, reads)
+    }
+}
+
+/// Tests whether `path` leads to the slot at which the walk of a message stops, also with counted reads.
 fn leads_to_stop(alloc: Global, words: &[u64], path: &[u32]) -> Result<bool, Fail> {
     let bytes = bytes_of(alloc, words)?;
     let Ok(bare) = Bare::new(bytes.as_slice()) else {
@@ -100,9 +127,13 @@ fn leads_to_stop(alloc: Global, words: &[u64], path: &[u32]) -> Result<bool, Fai
     let Err(stopped) = survey(alloc, &bare, Limits::usual()) else {
         return Ok(false);
     };
-    match path_of_stop(alloc, &bare, Limits::usual(), stopped) {
-        Ok(found) => Ok(found.as_slice() == path),
-        Err(_) => Ok(false),
+    let counted = (&bare).ask(PathTask { alloc, stopped });
+    match (
+        path_of_stop(alloc, &bare, Limits::usual(), stopped),
+        counted,
+    ) {
+        (Ok(found), Ok(counted)) => Ok(found.as_slice() == path && counted.as_slice() == path),
+        _ => Ok(false),
     }
 }
 
