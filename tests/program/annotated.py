@@ -37,8 +37,9 @@ Line = collections.namedtuple("Line", "offset place bytes times kind way text")
 
 class Cover:
     """Finds which objects and landing pads cover the words of an accepted message. For each word, `times` says how
-    often it is covered. `parts` has the object or landing pad that covers it first, and `roles` has its role there.
-    `overlaps` says whether something else covers it, too."""
+    often it is covered. `parts` has the object or landing pad that covers the word first, and `roles` has the role of
+    the word in this object or landing pad. `overlaps` says whether another object or landing pad covers the word,
+    too."""
 
     def __init__(self, segments):
         self.segments = [struct.unpack(f"<{len(one) // 8}Q", one) for one in segments]

@@ -60,7 +60,8 @@ MESSAGES = [
 
 
 class Slots(annotated.Cover):
-    """A `Cover` with the dictionary `slots`. It has the place of the pointer that each visit follows."""
+    """A `Cover` that also has a dictionary `slots`. For the number of each visit, `slots` has the place of the pointer
+    that the visit follows."""
 
     def __init__(self, segments):
         self.slots = {}
