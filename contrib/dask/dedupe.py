@@ -110,8 +110,8 @@ def frames(part: Part, kept: list[Message], is_canonical: bool) -> bytes:
 
 
 class Choice:
-    """Chooses the first of all messages with the same value. The object takes one part after the other, and counts the
-    messages."""
+    """Of the messages that have the same value, chooses the first. A `Choice` takes the parts one after the other, and
+    counts their messages."""
 
     def __init__(self) -> None:
         self.seen: set[str] = set()

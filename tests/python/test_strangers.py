@@ -21,9 +21,10 @@ class Canonical(unittest.TestCase):
     table."""
 
     def test_a_frame(self):
-        # If the message is read without a form, its segment table is taken as a pointer to a struct. This struct is
-        # canonical, since its last word isn't zero. The message itself isn't canonical, since the last data word of its
-        # root struct is zero.
+        # Without the argument `form`, the bytes are read as one segment without a segment table. The segment table is
+        # then taken as the root pointer, to a struct. Read so, the bytes are canonical, since the last word of this
+        # struct isn't zero. Read with their segment table, they aren't canonical, since the last data word of the root
+        # struct is zero.
         loose = stream(bare(("struct", [5, 0], [text("abc")])))
         with self.assertWarnsRegex(DeprecationWarning, "^is_canonical without a form reads the words") as caught:
             self.assertTrue(capn.is_canonical(loose))
