@@ -26,9 +26,9 @@ fn asks(alloc: Global, words: &[&str], is_help: bool, is_version: bool) -> bool 
 #[test]
 fn requests_and_mistakes(rt: HostRuntime) {
     let alloc = rt.alloc();
-    assert!(rt; asks(alloc, &["--help"], true, false));
-    assert!(rt; asks(alloc, &["check", "--help"], true, false));
-    assert!(rt; asks(alloc, &["--version"], false, true));
-    assert!(rt; asks(alloc, &["no-such-command"], false, false));
-    assert!(rt; asks(alloc, &["check", "--no-such-option"], false, false));
+    assert!(rt; asks(alloc, &["capn", "--help"], true, false));
+    assert!(rt; asks(alloc, &["capn", "check", "--help"], true, false));
+    assert!(rt; asks(alloc, &["capn", "--version"], false, true));
+    assert!(rt; asks(alloc, &["capn", "no-such-command"], false, false));
+    assert!(rt; asks(alloc, &["capn", "check", "--no-such-option"], false, false));
 }
