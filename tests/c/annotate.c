@@ -1,6 +1,7 @@
-/* Tests capn_annotate on hand-written messages whose lines are known. Each message lies next to a page that can't be
- * accessed, at aligned and at unaligned addresses. The array for the lines has each length from 0 to more than enough.
- * A message without a segment table is also tested with a segment table, and packed. */
+/* Tests capn_annotate on hand-written messages. The lines that it has to return are written by hand, too. Each message
+ * lies next to a page that can't be accessed, at aligned and at unaligned addresses. The call gets arrays of each
+ * length, from 0 to more lines than it returns. If a message has no segment table, it is also tested with a segment
+ * table, and in packed form. */
 #define TEST "annotate"
 #include "wanted.h"
 

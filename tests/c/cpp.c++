@@ -1,6 +1,7 @@
 // Tests the calls of capn.hpp on hand-written messages.
 //
-// This file tests results, errors, streams in chunks, fields with defaults, and the types that can be passed as bytes.
+// The tests cover the results of calls, errors, streams in chunks, fields with defaults, and the types that can be
+// passed as bytes.
 #include "capn.hpp"
 #include <array>
 #include <cstdio>
@@ -90,9 +91,9 @@ static void answers() {
     want("unpack", capn::bytes(capn::unpack(packed)).chars() == one);
     want("packed", capn::canonical(packed, capn::form::packed) == capn::canonical(one));
     want("canonical words", capn::is_canonical_words(capn::canonical(one)) && !capn::is_canonical_words(one.substr(8)));
-    /* As a stream, this message isn't canonical, since the last data word of its root struct is zero. If all of its
-     * bytes are read as words without a segment table, they are canonical. The first word, which was the table, is then
-     * a pointer to a struct. */
+    /* This stream isn't canonical, since the last data word of its root struct is zero. The same bytes are canonical if
+     * they are read as a message without a segment table. The word of the segment table is then read as a pointer to a
+     * struct. */
     using capn::form;
     const capn::limits few(99, 2, 9);
     const std::string loose = framed(words({2ull << 32 | 1ull << 48, 5, 0, 1 | 0x22ull << 32, 0x636261}));
@@ -138,7 +139,7 @@ static void answers() {
     want("no more room than needed", small.size() == 8 && small.capacity() < 128);
     want("no more of a packed one", capn::canonical(capn::pack(one), form::packed).capacity() < 128);
     want("no more of a text", capn::show(null_root).capacity() < 128);
-    /* This message has 4 GiB of zeros, which is over the limit. The call has to reject the message, and must not
+    /* This message has 4 GiB of zeros, which is over the limit. Each call has to reject the message, and must not
      * allocate 4 GiB. The zeros are mapped but never written, so they take no memory. */
     const std::size_t huge = std::size_t{1} << 32;
     void *const pages = mmap(nullptr, huge, PROT_READ, MAP_PRIVATE | MAP_ANONYMOUS | MAP_NORESERVE, -1, 0);
@@ -195,14 +196,15 @@ static void pieces() {
     };
     want("the first one", which(loop, none) == "TooDeep0");
     want("the second one", which(two, loop) == "TooDeep1");
-    /* If the segments together are longer than the limit, the call rejects them before it copies them. */
+    /* The call has to add up the lengths of the segments before it copies a segment. It has to reject these segments,
+     * because the sum is over the limit. */
     const capn_segment long_one[] = {{rest.data(), std::size_t{1} << 60}, {rest.data(), std::size_t{1} << 60}};
     want("too long", thrown<capn::refusal>([&] { capn::show(long_one); }).rfind("frame: TooManyWords", 0) == 0);
     want("too long for bytes", capn::segments(long_one).bytes_in_all() > 8ull << 28);
 }
 
-/* Tests capn::canonical_into, which writes the canonical bytes into a buffer of the caller, and uses scratch memory of
- * the caller. The messages have few segments or many segments, or are packed. */
+/* Tests capn::canonical_into. The caller passes a buffer for the canonical bytes, and scratch memory. Some messages
+ * have few segments, some have many segments, and some are packed. */
 static void lent() {
     using capn::form;
     const std::string message = framed(words({1ull << 32, 5})), wanted(capn::bytes(capn::canonical(message)).chars());
@@ -228,8 +230,8 @@ static void lent() {
                        == CAPN_BAD_LIMITS);
 }
 
-/* Compares pairs of messages. Some pairs have the same value in two layouts. Others have different values, or one of
- * the two messages is rejected. */
+/* Tests capn::same on pairs of messages. In some pairs, the two messages have the same value in two layouts. In other
+ * pairs, the values are different, or one message is rejected. */
 static void comparisons() {
     using capn::form;
     const std::string tight = framed(words({1ull << 32, 5})), other = framed(words({1ull << 32, 6}));
@@ -448,7 +450,7 @@ static void streams() {
     want("the cut one", thrown<capn::refusal>([&] { reader.next(); }) == "message 2 at 32: frame: Cut");
 }
 
-/* A reader gets its bytes from a function of the caller. Here, this function returns a wrong number of bytes. The
+/* A reader gets its bytes from a function of the caller. In this test, the function returns the wrong number. The
  * reader must not report that as an error of the message, and must not read a byte that the function didn't write. */
 static void readers() {
     /* The reader gets its bytes from a function. On the second call, this function returns a number of bytes that is
@@ -468,8 +470,8 @@ static void readers() {
         const auto message = reader.next();
         want("nothing is lost", message && message->chars() == one && reader.next()->chars() == one && !reader.next());
     }
-    /* The pipe has 8 bytes. After these, read(2) fails and returns -1. The function that the reader calls returns the
-     * -1 as if it were a number of bytes. */
+    /* The pipe has 8 bytes. When they are read, the next call of read(2) fails and returns -1. The function that the
+     * reader calls returns the -1 as if it were a number of bytes. */
     int ends[2];
     want("a pipe", pipe(ends) == 0 && fcntl(ends[0], F_SETFL, O_NONBLOCK) == 0 && write(ends[1], one.data(), 8) == 8);
     capn::reader forgetful([&](std::byte *to, std::size_t most) {
@@ -621,7 +623,7 @@ static void packed_streams() {
             }
             want("all packed messages", got == messages.size() && at == stream.size());
         }
-    /* Truncates the stream at many places. */
+    /* Reads prefixes of the stream, which end at many different places. */
     for (std::size_t size = 0; size < apart.size(); size += 1 + size / 40) {
         std::size_t at = 0, got = 0;
         const std::size_t whole = static_cast<std::size_t>(std::upper_bound(ends.begin(), ends.end(), size)
@@ -677,8 +679,8 @@ static void packed_streams() {
                                                == "message 1 at 0: frame: TooManyWords(4)");
 }
 
-/* Reads messages from a socket whose peer waits for a reply to each message. If a message is complete, the reader must
- * not wait for more bytes. It must not take bytes that follow the last message. */
+/* Reads messages from a socket whose peer waits for a reply to each message. Once a message is complete, the reader
+ * must not wait for more bytes. The reader must not take bytes that follow the last message. */
 static void sockets() {
     int ends[2];
     want("a socket", socketpair(AF_UNIX, SOCK_STREAM, 0, ends) == 0);
@@ -753,9 +755,9 @@ static void fields() {
     want("many slots", capn::index::of(whole).size() == 201);
 }
 
-/* The canonical bytes of a list of structs leave out the data words, or the pointers, if they are zero in every struct.
- * A caller may read such a list as numbers or as pointers. It must get the same zeros or nulls from the canonical bytes
- * as from the original bytes. */
+/* If every data word in a list of structs is zero, the canonical bytes leave out the data words. If every pointer is
+ * null, the canonical bytes leave out the pointers. A caller may read such a list as a list of numbers or of pointers.
+ * The caller must get the same zeros or nulls from the canonical bytes as from the original bytes. */
 static void canonical_lists() {
     const auto all = [](const capn::numbers<std::uint16_t> &numbers) {
         return std::vector<std::uint16_t>(numbers.begin(), numbers.end());

@@ -116,7 +116,8 @@ void try_null_segment() {
     }
 }
 
-/* Calls capn_kj.hpp with segments that no message builder makes. Tests the reported error, and its text. */
+/* Passes invalid segments, which a message builder doesn't make, to the calls of capn_kj.hpp. Tests the errors that the
+ * calls report. */
 void try_refused() {
     capnp::MallocMessageBuilder empty;
     try {

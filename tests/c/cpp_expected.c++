@@ -1,6 +1,6 @@
 // Tests the calls of capn.hpp that don't throw.
 //
-// Each call returns the value or the error. This file is also compiled without exceptions.
+// Such a call returns its result or an error. This file is also compiled without exceptions.
 #include "capn.hpp"
 #include <cstdio>
 #include <cstring>

@@ -1,11 +1,12 @@
-// The programs in this file test that a wrong use of capn.hpp doesn't compile, and that right programs compile.
+// Tests that a compiler rejects programs that use capn.hpp in a wrong way, and accepts programs that use it in a right
+// way.
 //
 // Without the macro CASE, this file has only right programs. Each value of CASE adds one wrong program, which a
 // compiler has to reject. The wrong program would read bytes after the object that owns them is destroyed, or it
 // confuses two numbers, such as a number of words and a number of bytes.
 //
-// The line of a case begins with a word and a colon. The compiler's error has to contain this word. Only clang warns
-// about the cases whose word is `dangling`. `tests/c/languages` compiles each case.
+// The comment on the line of a case begins with a word and a colon. The compiler's error has to contain this word. Only
+// clang warns about the cases whose word is `dangling`. `tests/c/languages` compiles each case.
 #include "capn.hpp"
 #ifdef WITH_KJ
 #include "capn_kj.hpp"

@@ -1,8 +1,8 @@
 // Compares the time of each call of capn.hpp with the time of the same call in C.
 //
 // Each function of capn.hpp calls functions of capn.h. `cpp_time [MOST]` fails if a function of capn.hpp takes more
-// than MOST times as long as those functions of capn.h. The program compares the shortest times of many rounds. In each
-// round, the call of capn.hpp and the calls of capn.h run one after the other.
+// than MOST times as long as the functions of capn.h that it calls. The program compares the shortest times of many
+// rounds. In each round, the call of capn.hpp and the calls of capn.h run one after the other.
 #include "capn.hpp"
 #include <chrono>
 #include <cstdio>

@@ -1,7 +1,7 @@
 // Reads calls from standard input, makes them with capn.hpp, and writes the results.
 //
-// The results have the format of the expected answers, as vectors.c writes them. Each call on a stream is also made on
-// the stream's segments.
+// The results have the format of the expected answers. The program vectors.c writes the results of C calls in the same
+// format. Each call on a stream is also made on the stream's segments.
 #include "capn.hpp"
 #include <cstdio>
 #include <iostream>

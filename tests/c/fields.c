@@ -378,8 +378,7 @@ static size_t message(uint8_t *to, const uint64_t *words, size_t count) {
 }
 
 /* Tests a message whose root has one pointer, which refers to a list of two structs. Each struct has a zero word, or a
- * null pointer, or neither. The test reads the list as numbers and as pointers, as a program with an older schema does.
- * */
+ * null pointer, or neither. The test reads the list as numbers and as pointers, like a program with an older schema. */
 static void two_of_zeros(const uint64_t *words, size_t count) {
     uint8_t data[64];
     capn_entry all[8];

@@ -1,7 +1,7 @@
 /* Passes arbitrary bytes to each call of capn.h, in each form (stream, packed and bare). The results of the calls must
  * agree with one another, and no call may read beyond the given bytes. Each line of standard input ends with bytes in
- * hexadecimal. The program passes these bytes to each call, and also copies in which some bytes are changed. The
- * changes come from a fixed seed. */
+ * hexadecimal. The program passes these bytes to each call. It also passes copies of them, in which some bytes are
+ * changed. The changes come from a fixed seed. */
 
 /* A fuzzer calls the function LLVMFuzzerTestOneInput of this file. This command builds the fuzzer:
  *
@@ -138,7 +138,7 @@ static void led(uint32_t form, const uint8_t *bytes, size_t size, capn_status ch
 }
 
 /* capn_annotate must report the same as capn_check. Each word of the message must be in exactly one line, and the lines
- * must be in order. Each line must have the right count of words that aren't zero. */
+ * must be in order. For each line, the reported number of words that aren't zero must be right. */
 static void lined(uint32_t form, const uint8_t *bytes, size_t size, capn_status check, const capn_report *checked) {
     capn_report report;
     const capn_status status = capn_annotate(form, bytes, size, &limits, NULL, 0, &report);

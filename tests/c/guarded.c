@@ -1,5 +1,5 @@
 /* Makes random calls of each function of capn.h, with valid and hostile inputs, and with buffers of many sizes. The
- * memory of a call lies before or after a page that can't be accessed. The input is read-only. */
+ * memory that is passed to a call lies before or after a page that can't be accessed. The input is read-only. */
 
 /* The argument is the number of calls. Each line of standard input ends with bytes in hexadecimal. These bytes are some
  * of the inputs. The seed is fixed, so each run makes the same calls. The program prints a hash of everything that the
@@ -225,7 +225,7 @@ static size_t room_for(size_t enough) {
 /* The status of the current call. */
 static capn_status status;
 
-/* Makes one call on the input. Returns the buffer size that is enough, as the call reports it. */
+/* Makes one call on the input. Returns the buffer size that the call reports as enough. */
 static size_t call(uint32_t which, const uint8_t *bytes, size_t size, size_t enough) {
     written_count = 0;
     capn_report *r = (capn_report *)filled(of_report, sizeof *r);

@@ -1,7 +1,7 @@
 /* Tests the index of a hand-written message that has each kind of object. The message has no segment table, or a table
- * of one or three segments. It lies next to a page that can't be accessed, at aligned and at unaligned addresses. The
- * array for the entries has each length from 0 to more than enough. (tests/c/fuzz.c reads the indexes of many
- * messages.) */
+ * of one or three segments. The message lies next to a page that can't be accessed, at aligned and at unaligned
+ * addresses. The call gets arrays of each length, from 0 to more entries than it returns. (tests/c/fuzz.c reads the
+ * indexes of many messages.) */
 #define TEST "index"
 #include "wanted.h"
 
@@ -44,8 +44,8 @@ int main(void) {
     make(words, wanted);
     wanted[0].span = COUNT - 1;
     for (size_t segments = 0; segments <= 3; segments += segments == 0 ? 1 : 2) {
-        /* In a message of three segments, the first one has only the root pointer. This pointer is a far pointer to the
-         * landing pad at the start of the third segment. */
+        /* In a message of three segments, the first segment has only the root pointer. This pointer is a far pointer to
+         * the landing pad at the start of the third segment. */
         size_t table = segments == 0 ? 0 : 8 * (segments / 2 + 1), more = segments == 3 ? 8 : 0;
         size_t size = table + more + 8 * WORDS;
         for (size_t off = 0; off < 8; off++) {

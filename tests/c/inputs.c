@@ -1,5 +1,5 @@
-/* Tests each call of capn.h with enough memory. The inputs are valid messages, no bytes, numbers out of range, segment
- * tables that announce too many bytes, and hostile messages. Buffers of each size are tried, too. */
+/* Tests each call of capn.h with enough memory. The inputs are valid messages, hostile messages, an input of 0 bytes,
+ * numbers out of range, and segment tables that announce too many bytes. Buffers of each size are tried, too. */
 #define TEST "inputs"
 #include "wanted.h"
 
@@ -98,7 +98,7 @@ static void anywhere(void) {
 }
 
 /* Makes a message of each allowed number of segments, 1 to 4,096, as a stream and packed. The calls have to accept each
- * message. Its first segment has a null root, and its other segments have no words. */
+ * message. The first segment of a message has a null root, and the other segments have no words. */
 static void segments(void) {
     static uint8_t frame[4 * 4097 + 4 + 8], text[2 * sizeof frame], digest[32];
     capn_report r;
@@ -222,8 +222,8 @@ static void announced(void) {
     want("announced", r.at, 1ull << 32);
     want("4,096 segments", capn_check(CAPN_STREAM, most, 8, &greatest, &r), CAPN_FRAME_CUT);
     want("4,097 segments", capn_check(CAPN_STREAM, above, 8, &greatest, &r), CAPN_TOO_MANY_SEGMENTS);
-    /* In these packed bytes, each pair of bytes stands for 256 zero words. The limit of the call is 256 words, so the
-     * second pair is too much. */
+    /* In these packed bytes, each pair of bytes stands for 256 zero words. The call has a limit of 256 words, so the
+     * second pair exceeds the limit. */
     static uint8_t zeros[2 * 4096];
     for (size_t i = 0; i < sizeof zeros; i += 2) zeros[i + 1] = 255;
     want("a packed run above its maximum", capn_unpack(zeros, sizeof zeros, 256, NULL, 0, &r), CAPN_PACKED_TOO_LONG);

@@ -111,8 +111,8 @@ static void refused(const char *name, const capn_report *report) {
     if (memcmp(report, &none, sizeof none)) fail(name, "reports");
 }
 
-/* Repeats a call until it succeeds. Each time, one more allocation succeeds, and all later allocations fail. The call
- * has to fail at least `least` times. */
+/* Repeats a call until the call succeeds. In the first run, every allocation fails. In each later run, one more
+ * allocation succeeds before the others fail. The call has to fail at least `least` times. */
 static void each(const char *name, call *make, const input *in, int least) {
     capn_report report;
     uint32_t status = CAPN_MEMORY;
@@ -186,7 +186,8 @@ static void in_turn(void) {
 }
 
 /* Tests how many allocations the calls make for messages of any depth. A message without a segment table, or with at
- * most 64 segments, needs none. For a message of 65 segments, a call needs memory to store where each segment ends. */
+ * most 64 segments, needs no allocation. For a message of 65 segments, a call needs memory to store where each segment
+ * ends. */
 static void at_depth(uint32_t most, size_t depth, uint32_t wanted) {
     const capn_limits limits = limits_of(1u << 20, 1u << 20, most, CAPN_STRICT);
     const uint32_t room = wanted == CAPN_OK ? CAPN_NO_ROOM : wanted;

@@ -1,6 +1,7 @@
-/* Tests capn_first and capn_unpack_some, which take their input in chunks. They get each prefix of a message or of
- * packed bytes, with each size of buffer. The memory lies at aligned and at unaligned addresses, next to a page that
- * can't be accessed. The version and the texts of the statuses are tested, too. */
+/* Tests capn_first and capn_unpack_some, which take their input in chunks. capn_first gets each prefix of a message.
+ * capn_unpack_some gets each prefix of packed bytes, with each size of buffer. The memory lies at aligned and at
+ * unaligned addresses, next to a page that can't be accessed. The program also tests the version of the library, and
+ * the text of each status. */
 #define TEST "pieces"
 #include "wanted.h"
 
@@ -90,8 +91,8 @@ static void refused(void) {
     want("no report", r.length | r.at, 0);
 }
 
-/* Zero words, words with one byte that isn't zero, words with eight such bytes, and the packed bytes of all these
- * words. */
+/* `words` has words that are zero, words with one byte that isn't zero, and words with eight such bytes. `text` has the
+ * packed bytes of all these words. */
 enum { WORDS = 40 };
 static uint8_t words[8 * WORDS], text[10 * WORDS];
 static size_t text_size;

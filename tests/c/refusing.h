@@ -1,4 +1,4 @@
-/* An allocator whose allocations fail when a test asks for it. To use it, link the test with
+/* With this allocator, a test can make allocations fail. To use it, link the test with
  * -Wl,--wrap=malloc,--wrap=realloc,--wrap=free. */
 #ifndef CAPN_TESTS_REFUSING_H
 #define CAPN_TESTS_REFUSING_H
@@ -9,7 +9,7 @@ void *__real_realloc(void *old, size_t size);
 void __real_free(void *block);
 
 /* `left` is the number of allocations that succeed before all others fail (-1 if none fails). `asked` is the number of
- * allocations that were made. `live` is the number of blocks that aren't freed. */
+ * allocations that were made. `live` is the number of blocks that aren't freed yet. */
 static long left = -1, asked, live;
 
 static int refuses(void) {

@@ -1,6 +1,6 @@
 /* Tests capn_same, which compares two messages. The status, the report and `which` must follow from the results of
- * capn_canonical. capn_same has to make as many allocations as capn_check for the same messages. Each of these
- * allocations also fails once. */
+ * capn_canonical. capn_same has to make as many allocations as capn_check for the same messages. The test also makes
+ * each of these allocations fail once. */
 
 /* Some messages are written by hand. The others are the hexadecimal bytes at the ends of the lines of standard input.
  * These bytes are read in each form (stream, packed and bare) and with some limits. Each unpacked message is compared
@@ -74,8 +74,8 @@ static void pair(const struct input *a, const struct input *b) {
     else refused[of]++;
 }
 
-/* Makes each allocation of capn_same fail in turn: first the allocations for one message, and then those for the other
- * message. */
+/* Repeats a call of capn_same. In each run, one more allocation succeeds before the others fail. The allocations for
+ * the first message come before those for the second message. */
 static void without_memory(const struct input *a, const struct input *b) {
     uint32_t which, of;
     capn_report report, told;
@@ -100,7 +100,7 @@ static void put(uint8_t *to, const uint64_t *words, size_t many) {
     for (size_t i = 0; i < 8 * many; i++) to[i] = (uint8_t)(words[i / 8] >> i % 8 * 8);
 }
 
-/* Compares two messages in both orders. First they have no segment table, and then they have a table of one segment. */
+/* Compares two messages in both orders: once without segment tables, and once with tables of one segment. */
 static void words(const char *what, const uint64_t *a, size_t many_a, const uint64_t *b, size_t many_b,
                   capn_status wanted) {
     uint8_t one[8 + 128] = {0}, other[8 + 128] = {0};

@@ -1,6 +1,6 @@
 /* Tests capn_canonical_with_scratch, which gets scratch memory from the caller and must never allocate. With enough
- * scratch memory, it has to return and report the same as capn_canonical. With one word less, it has to report how much
- * scratch memory it needs. */
+ * scratch memory, it has to return and report the same as capn_canonical. With one word less than enough, it has to
+ * report how much scratch memory it needs. */
 
 /* Some messages are written by hand. The others are the hexadecimal bytes at the ends of the lines of standard input.
  * These bytes are read in each form (stream, packed and bare) and with some limits. */
@@ -12,8 +12,8 @@ enum { LINE = 1 << 20, MORE = 3, FILL = 0x55 };
 static unsigned long long answered, refused, lent;
 static uint8_t *bytes_pages, *scratch_pages, *out_pages;
 
-/* The input, the scratch memory and the buffer each lie in front of a page that can't be accessed: directly, or one
- * byte away. */
+/* The input, the scratch memory and the buffer each end before a page that can't be accessed: directly before it, or
+ * one byte earlier. */
 struct given {
     uint32_t form;
     const uint8_t *bytes;
@@ -118,7 +118,7 @@ static void compare(uint32_t form, const uint8_t *bytes, size_t size, const capn
 
 /* ---- messages that are written by hand */
 
-/* Tests how much scratch memory a message of many segments needs. Its first segment has a zero word, and its other
+/* Tests how much scratch memory a message of many segments needs. The first segment has a zero word, and the other
  * segments have no words. The message is passed packed and unpacked. */
 static void many(size_t segments) {
     const size_t table = 8 * (segments / 2 + 1), size = table + 8;

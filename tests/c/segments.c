@@ -1,10 +1,11 @@
-/* Tests the calls that take the segments of a message, such as capn_check_segments. Each must return the same as the
- * call that takes a stream, such as capn_check. Other tests use segments that no stream can have, or make calls while
- * every allocation fails. */
+/* Tests the calls that take a message as segments. For example, capn_check_segments must return the same as capn_check,
+ * which takes a stream. Other tests use segments that no stream can have, or make calls while every allocation
+ * fails. */
 
-/* Each line of standard input ends with the bytes of a stream, in hexadecimal. The test uses these streams, and copies
- * in which some bytes are changed. The changes come from a fixed seed. Each segment is copied to memory of its own, at
- * an aligned or an unaligned address. The last segment ends before a page that can't be accessed. */
+/* Each line of standard input ends with the bytes of a stream, in hexadecimal. The test uses these streams. It also
+ * uses copies of them, in which some bytes are changed. The changes come from a fixed seed. Each segment is copied to
+ * memory of its own, at an aligned or an unaligned address. The last segment ends before a page that can't be
+ * accessed. */
 #define TEST "segments"
 #include "refusing.h"
 #include "wanted.h"
@@ -57,7 +58,8 @@ static void compare(const capn_segment *segments, size_t count, const uint8_t *f
         wanted = capn_canonical(CAPN_STREAM, frame, size, limits, other, room, &told);
         same("canonical", status, wanted, &report, &told, out, other, room);
         if (status > CAPN_NO_ROOM) break;
-        /* in the second round the buffer has exactly the needed length, and in the third round one byte less */
+        /* in the second round the buffer has exactly the needed length, and in the third round it is one byte
+         * shorter */
         room = round ? told.length - 1 : told.length;
     }
     free(out);
@@ -100,8 +102,8 @@ static void held(const uint8_t *frame, size_t size, const capn_limits *limits) {
     for (size_t i = 0; i < made; i++) free(blocks[i]);
 }
 
-/* Makes the `_segments` calls on no segments, on as many segments as a message may have, on one more, on segments that
- * share their words, and on segments with too many words. */
+/* Makes the `_segments` calls on no segments, on as many segments as a message may have, on one segment more, on
+ * segments that share their words, and on segments with too many words. */
 static void borders(void) {
     static const uint8_t words[8 * 1024];
     static capn_segment segments[MOST + 1];

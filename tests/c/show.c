@@ -114,8 +114,8 @@ static void agrees(uint32_t form, const uint8_t *bytes, size_t size, const capn_
     }
 }
 
-/* Computes what a run of `capn show` has to print. Prints the status, the output in hexadecimal, and the error. The
- * output has the dump of each message of a stream, or of one message that is packed or has no segment table. */
+/* Computes the status, the output and the error that a run of `capn show` has to give. Prints them, with the output in
+ * hexadecimal. The output has the dumps of all messages. */
 static void answer(char *line) {
     char *word[16], text[128];
     int count = 0;

@@ -1,5 +1,6 @@
-/* Makes calls that return each status of capn.h. All calls have to agree on the status of an input. Prints the numbers
- * of the statuses that were returned, in order. `tests/c/run` compares these numbers with those of the header. */
+/* Makes calls with many inputs, so that some call returns each status of capn.h. All calls have to agree on the status
+ * of an input. Prints the statuses that the calls returned, as numbers, in order. `tests/c/run` compares these numbers
+ * with those of the header. */
 #include "refusing.h"
 #include "usual.h"
 #include <stdio.h>
@@ -101,7 +102,8 @@ static void walked(void) {
     walks("a null root", &null, 1, &usual, CAPN_OK, 0);
 }
 
-/* Tests the errors for packed bytes and for the segment table. Also tests the number in the report of each error. */
+/* Tests the errors for invalid packed bytes and for invalid segment tables. Also tests the number in the report of each
+ * error. */
 static void read_as(const char *what, uint32_t form, const void *bytes, size_t size, const capn_limits *limits,
                     uint32_t wanted, uint64_t at) {
     capn_report told = each_call(what, form, bytes, size, limits, wanted);
@@ -180,9 +182,10 @@ static void called(void) {
     is("a struct with a zero word", capn_is_canonical(message + 8, 16, &usual, &report), CAPN_NOT_CANONICAL);
 }
 
-/* Makes calls while every allocation fails. For packed bytes, and for a stream of 65 segments, they return CAPN_MEMORY.
- * capn_pack, capn_unpack and capn_show always return CAPN_MEMORY. capn_canonical and capn_index don't allocate for a
- * message in one or two segments, so they succeed. capn_hash succeeds only if the message itself is canonical. */
+/* Makes calls while every allocation fails. For packed bytes, and for a stream of 65 segments, each call returns
+ * CAPN_MEMORY. capn_pack, capn_unpack and capn_show always return CAPN_MEMORY. For a message in one or two segments,
+ * capn_canonical and capn_index don't allocate, so they succeed. capn_hash succeeds only if the message itself is
+ * canonical. */
 static void without_memory(void) {
     const uint8_t many[272] = {64, 0, 0, 0, 1}, two[24] = {1, 0, 0, 0, 1}, packed[9] = {0x10, 1, 0, 0};
     const uint8_t loose[16] = {0, 0, 0, 0, 1};

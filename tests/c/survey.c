@@ -1,6 +1,6 @@
 /* Tests capn_survey, which returns statistics of a message. The messages are written by hand, and some are invalid. The
- * results are compared with those of the other calls. Each message is tried at aligned and at unaligned addresses, next
- * to a page that can't be accessed. */
+ * results are compared with those of other calls of capn.h. Each message is tried at aligned and at unaligned
+ * addresses, next to a page that can't be accessed. */
 #define TEST "survey"
 #include "wanted.h"
 

@@ -1,5 +1,5 @@
 /* Tests simultaneous calls. Several threads start together. Each thread makes every call of capn.h on the same input,
- * with its own buffers. Its results must be those of a single thread. */
+ * with its own buffers. The results of each thread must be the same as if it ran alone. */
 #include "usual.h"
 #include <pthread.h>
 #include <stdio.h>
@@ -16,7 +16,7 @@ static capn_limits limits;
 static uint8_t stream[16 + 8 * WORDS], packed[10 * (WORDS + 2)];
 static size_t packed_size;
 
-/* What all calls of one thread gave: the statuses, the reports and the written bytes. */
+/* What the calls of one thread returned and wrote: the statuses, the reports and the output bytes. */
 typedef struct answers {
     capn_status status[CALLS];
     capn_report report[CALLS];
@@ -78,8 +78,8 @@ int main(void) {
     stream[5] = WORDS >> 8;
     for (size_t i = 0; i < DEPTH; i++) {
         uint8_t *slot = stream + 16 + (i ? 8 * (2 * i - 1) : 0);
-        /* The first pointer of a struct has the offset 1, because the second pointer lies between it and the next
-         * struct. */
+        /* The first pointer of a struct has the offset 1, because the second pointer lies between the first pointer and
+         * the next struct. */
         slot[0] = i ? 4 : 0;
         slot[i + 1 < DEPTH ? 6 : 4] = i + 1 < DEPTH ? 2 : 1;
     }

@@ -39,8 +39,8 @@ static void fail(const char *why) {
     printf("broken: %s", why);
 }
 
-/* Makes a call that writes to a buffer. The test passes buffers of size 0, of exactly the needed length, and of one
- * byte less. */
+/* Makes a call that writes to a buffer. One buffer has the size 0, one has exactly the needed length, and one is a byte
+ * shorter. */
 typedef capn_status into(const void *call, uint8_t *out, size_t room, capn_report *report);
 
 static void with_rooms(into *make, const void *call, int is_measured, int is_priced) {
@@ -94,8 +94,9 @@ static capn_status unpacked(const void *at, uint8_t *out, size_t room, capn_repo
     return capn_unpack(call->bytes, call->size, call->most, out, room, report);
 }
 
-/* Computes what `capn hash` has to print. Prints the status, the output in hexadecimal, and the error. The output has
- * the digest of each message of a stream, or of one message that is packed or has no segment table. */
+/* Computes the status, the output and the error that a run of `capn hash` has to give. Prints them, with the output in
+ * hexadecimal. A stream can have several messages, and the output has the digest of each message. Packed bytes, and
+ * bytes without a segment table, must be one message. */
 static void hashed(const struct call *call) {
     char *lines = calloc(call->size + 1, 65);
     size_t lines_length = 0, taken;

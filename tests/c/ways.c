@@ -1,6 +1,6 @@
 /* Tests capn_refusal_way, which finds the path to an error, and capn_departure, which finds the first difference from
- * the canonical form. The array for the path has the right length, is longer, is shorter, or is missing. Each
- * allocation also fails once. */
+ * the canonical form. The call gets an array of the right length, a longer array, a shorter array, or no array. The
+ * test also makes each allocation fail once. */
 
 /* Each line of standard input is a call, and ends with bytes in hexadecimal. The argument says what the program does:
  *   - `answers` prints a line for each call that has limits: the path or the difference for the bytes, or `?` if the
@@ -83,7 +83,7 @@ static void rooms(call *make, const struct input *in, capn_status status, const 
     }
 }
 
-/* Makes the same call while one of its allocations fails, for each allocation in turn. */
+/* Repeats a call until the call succeeds. In each run, one more allocation succeeds before the others fail. */
 static void refuse_each(call *make, const struct input *in, capn_status wanted) {
     capn_status status = CAPN_MEMORY;
     const capn_report none = {0, 0, 0, 0, 0, 0};
@@ -112,8 +112,8 @@ static uint64_t word_at(const uint8_t *bytes, size_t word) {
     return number;
 }
 
-/* Compares the result of capn_departure with capn_survey. If the message has one segment, also tests the first word
- * that differs from the canonical bytes. */
+/* Compares the result of capn_departure with capn_survey. If the message has one segment, also tests which word is
+ * reported as the first that differs from the canonical bytes. */
 static void compare(const struct input *in, const capn_departed *d) {
     capn_figures f;
     capn_report r;
