@@ -111,7 +111,7 @@ static void answers() {
                                 (void)capn::is_canonical_words(loose, few);
                             }) == "OverBudget at 0:0, paid 0, visits 1");
     /* The following overload of `is_canonical` is deprecated. It has no argument for the form (stream, packed or bare).
-     * It takes the bytes as one segment without a segment table. */
+     * It reads the bytes as one segment without a segment table. */
 #if defined(__GNUC__)
 #pragma GCC diagnostic push
 #pragma GCC diagnostic ignored "-Wdeprecated-declarations"
@@ -321,8 +321,8 @@ static void lines() {
     want("the lines of a text", told(capn::annotate(invoice)) == "8 0:0 1 1 pointer\n16 0:1 1 1 data of 0:0\n"
                                                                  "24 0:2 1 1 pointer of 0:0\n"
                                                                  "32 0:3 1 1 list of 0:2\n");
-    /* The writer of this message has set a text twice. The message still has the words of the first text, but no
-     * pointer leads to them. */
+    /* The writer of this message has set the same text field twice. The message still has the words of the first text,
+     * but no pointer leads to them. */
     const std::string twice = words({1ull << 48, 5 | 50ull << 32, 0x616441, 0x6563617247});
     want("what nothing reaches", told(capn::annotate(twice, form::bare)) == "0 0:0 1 1 pointer\n"
                                                                             "8 0:1 1 1 pointer of 0:0\n"
@@ -470,8 +470,8 @@ static void readers() {
         const auto message = reader.next();
         want("nothing is lost", message && message->chars() == one && reader.next()->chars() == one && !reader.next());
     }
-    /* The pipe has 8 bytes. When they are read, the next call of read(2) fails and returns -1. The function that the
-     * reader calls returns the -1 as if it were a number of bytes. */
+    /* The pipe has 8 bytes. After these bytes are read, the next call of read(2) fails and returns -1. The function
+     * that the reader calls returns the -1 as if it were a number of bytes. */
     int ends[2];
     want("a pipe", pipe(ends) == 0 && fcntl(ends[0], F_SETFL, O_NONBLOCK) == 0 && write(ends[1], one.data(), 8) == 8);
     capn::reader forgetful([&](std::byte *to, std::size_t most) {
@@ -795,7 +795,8 @@ static void canonical_lists() {
     const capn::value data = other.root().as_struct().slot(0);
     want("bytes aren't 16 bits", !data.try_list<std::uint16_t>() && !data.try_pointers());
     want("no list", !other.root().try_list<std::uint8_t>() && !other.root().try_pointers());
-    /* A list of bytes is read as a list of structs. A field that is wider than a byte has its default value. */
+    /* If a list of bytes is read as a list of structs, each struct has only one byte. So a field that is wider than a
+     * byte has its default value. */
     const std::string older = framed(words({1ull << 48, 1 | 0xaull << 32, 5}));
     const capn::index of_older = capn::index::of(older);
     std::uint16_t field = 0;

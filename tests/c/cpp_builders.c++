@@ -98,8 +98,8 @@ bool try_one() {
     return held.size() > 1;
 }
 
-/* Tries a message of three segments, the second of which is a null array. The root pointer is a far pointer to the
- * third segment. */
+/* Tries a message of three segments. The second segment is a null array. The root pointer is a far pointer to the third
+ * segment. */
 void try_null_segment() {
     const std::uint64_t first = 2 | 2ull << 32, last[] = {1ull << 32, 5};
     const auto of = [](const std::uint64_t *words, std::size_t count) {

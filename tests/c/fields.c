@@ -6,11 +6,11 @@
  *     succeeds
  *   - `fields lines` reads the messages of generated.py as every kind of object, and prints a line for each pointer */
 
-/* The lines that `fields lines` prints. For a rejected message, the line is `rejected: ` and the text of the error. For
- * an accepted message, there is a line for each pointer, in preorder. The line begins with a word for the pointer's
- * kind. The object of the pointer is then read in eleven ways: as a struct; as a text; as data; as a list of elements
- * without size; as a list of numbers of 1, 8, 16, 32 and 64 bits; as a list of pointers; and as a list of structs. For
- * each way, the line has a hash in hexadecimal, or `-` if the object can't be read in this way. */
+/* These are the lines that `fields lines` prints. For a rejected message, the line is `rejected: ` and the text of the
+ * error. For an accepted message, there is a line for each pointer, in preorder. The line begins with a word for the
+ * pointer's kind. The object of the pointer is then read in eleven ways: as a struct; as a text; as data; as a list of
+ * elements without size; as a list of numbers of 1, 8, 16, 32 and 64 bits; as a list of pointers; and as a list of
+ * structs. For each way, the line has a hash in hexadecimal, or `-` if the object can't be read in this way. */
 
 /* `fields lines` prints a hash for each way to read an object. The hash is FNV-1a over 64-bit numbers. These are the
  * numbers:
@@ -55,8 +55,8 @@ static void show_text(const capn_entry *entry, const char *fallback) {
 }
 static void show_int(int64_t number) { printf("%" PRId64 ";", number); }
 
-/* Prints a struct of the type Point of fields.capnp. If `more` is set, the struct has the type Placed, whose additional
- * fields are printed too. */
+/* Prints the fields of a struct. Its type is Point of fields.capnp. If `more` is set, the type is Placed, which has
+ * more fields. */
 static void show_point(const capn_record *point, int more) {
     show_int(capn_field_int(point, 0, 32, 0));
     show_int(capn_field_int(point, 32, 32, -1));
@@ -327,7 +327,8 @@ static int show_lines(void) {
     return failed != 0;
 }
 
-/* Reads each message of a stream. Prints the message's fields, or in how many ways its pointers can be read. */
+/* Reads each message of a stream. Depending on the command, prints the fields of the message, or the number of ways in
+ * which its pointers can be read. */
 static int show_stream(const char *as) {
     const int is_any = !strcmp(as, "any");
     const capn_limits limits = CAPN_USUAL_LIMITS;
@@ -418,7 +419,8 @@ static void by_another_schema(void) {
     want("the same", capn_same(CAPN_STREAM, one, message(one, a_word, 5), other, size, NULL, NULL, NULL), CAPN_OK);
     want("the same", capn_same(CAPN_STREAM, one, message(one, a_pointer, 5), other, size, NULL, NULL, NULL), CAPN_OK);
 
-    /* A list of bytes is read as a list of structs. A field that is wider than a byte has its default value. */
+    /* If a list of bytes is read as a list of structs, each struct has only one byte. So a field that is wider than a
+     * byte has its default value. */
     static const uint64_t bytes_of_older[] = {1ull << 48, 1 | (2 | 1 << 3) * (1ull << 32), 5};
     capn_entry all[2];
     capn_record root, row;
@@ -438,7 +440,8 @@ static void by_hand(void) {
     want("what is stored for 7", (int64_t)of_words(1, 0), 7);
     want("no word", (int64_t)of_words(0, 0), 7);
 
-    /* Reads a field of each width at each bit of two words. Compares the field with these bits of the words. */
+    /* Reads a field of each width at each bit offset of two words. Compares the field with the bits of the words at
+     * this offset. */
     uint8_t data[16];
     for (int i = 0; i < 16; i++) data[i] = (uint8_t)(37 * i + 11 * i * i + 201);
     capn_record record = {data, NULL, 128, 0};

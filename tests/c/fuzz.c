@@ -63,9 +63,9 @@ static uint64_t content(const capn_entry *e) {
     }
 }
 
-/* Tests entry i of an index, and the entries of the pointers in its object. The content of the object must lie within
- * the bytes of the message. The entries of the pointers must follow one another, up to the end of the span of entry i.
- * A null pointer must have a null entry. */
+/* Tests entry i of an index, and the entries of the pointers in the object of entry i. The content of this object must
+ * lie within the bytes of the message. The entries of the pointers must follow one another, up to the end of the span
+ * of entry i. A null pointer must have a null entry. */
 static void entry(const capn_entry *all, size_t count, size_t i, const uint8_t *bytes, size_t size) {
     const capn_entry *e = &all[i];
     need(e->span >= 1 && e->span <= count - i, "a span", bytes, size);
@@ -106,7 +106,7 @@ static void indexed(uint32_t form, const uint8_t *bytes, size_t size, capn_statu
     need(figures.depth < 2 || capn_check(form, bytes, size, &lower, &report) == CAPN_TOO_DEEP, "less", bytes, size);
     const size_t count = checked->visits;
     need(figures.visits == count && figures.paid == checked->paid, "the figures", bytes, size);
-    /* This block has exactly the size of the entries, so that a sanitizer detects an access past the end. */
+    /* This block has exactly the size of the array of entries, so that a sanitizer detects an access past the end. */
     capn_entry *all = malloc(count * sizeof *all);
     for (size_t room = count - 1; room <= count; room++) {
         memset(all, 0x55, count * sizeof *all);
@@ -147,7 +147,7 @@ static void lined(uint32_t form, const uint8_t *bytes, size_t size, capn_status 
     report.length = 0;
     need(!memcmp(&report, checked, sizeof report), "its report", bytes, size);
     if (check != CAPN_OK) return;
-    /* This block has exactly the size of the lines, so that a sanitizer detects an access past the end. */
+    /* This block has exactly the size of the array of lines, so that a sanitizer detects an access past the end. */
     capn_line *all = malloc(count * sizeof *all);
     need(capn_annotate(form, bytes, size, &limits, all, count - 1, &report) == CAPN_NO_ROOM, "room", bytes, size);
     need(capn_annotate(form, bytes, size, &limits, all, count, &report) == CAPN_OK, "lines", bytes, size);

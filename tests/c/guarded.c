@@ -164,8 +164,8 @@ static void store(char *line) {
 
 static uint8_t *of_input, *of_limits, *of_out, *of_report, *of_other;
 
-/* The memory for the output of the current call, and a hash. The hash is FNV-1a over everything that all calls returned
- * and wrote. */
+/* These variables have the memory for the output of the current call, and a hash. The hash is FNV-1a over everything
+ * that all calls returned and wrote. */
 static struct { const uint8_t *bytes; size_t size; } written[4];
 static uint32_t written_count;
 static uint64_t sum = 0xcbf29ce484222325;

@@ -131,7 +131,7 @@ static void nothing(void) {
     blank("its report", &r);
 }
 
-/* The limits that are numbers, with their offsets in capn_limits and their ranges. */
+/* This table has the limits that are numbers, with their offsets in capn_limits and their ranges. */
 static const struct {
     size_t at;
     uint32_t least, most;

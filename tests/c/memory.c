@@ -230,9 +230,9 @@ static void at_depth(uint32_t most, size_t depth, uint32_t wanted) {
     wants("index, 65 segments", indexed, &more, wanted == CAPN_OK ? 2 : 1, wanted);
 }
 
-/* Tests calls that return before they store anything, so that they need no memory. The inputs are: no bytes; a length
- * that isn't a multiple of 8; packed bytes whose first group is truncated or too long; and a segment table that is
- * truncated or announces too much. */
+/* Tests calls that return before they store anything. For 65 segments, such a call needs memory. For each other input,
+ * it needs none. The inputs are: an input of 0 bytes; a length that isn't a multiple of 8; packed bytes whose first
+ * group is truncated; a segment table that is truncated or announces too much; and segments without words. */
 static void unread(void) {
     const uint8_t cut[9] = {255}, head[8] = {1, 0, 0, 0, 1}, count[8] = {255, 255}, whole[16] = {1}, sizes[264] = {64};
     const input nothing = {CAPN_STREAM, NULL, 0, usual}, odd = {CAPN_BARE, cut, 9, usual};

@@ -3,8 +3,8 @@
  * each of these allocations fail once. */
 
 /* Some messages are written by hand. The others are the hexadecimal bytes at the ends of the lines of standard input.
- * These bytes are read in each form (stream, packed and bare) and with some limits. Each unpacked message is compared
- * with all others. */
+ * These bytes are read in each form (stream, packed and bare) and with some limits. In the forms stream and bare, with
+ * the default limits, each input is compared with every input. */
 #define TEST "same"
 #include "refusing.h"
 #include "wanted.h"
@@ -15,7 +15,8 @@ static unsigned long long equal, unequal, refused[2];
 struct input {
     const uint8_t *bytes;
     size_t size;
-    /* For this input: the results of capn_canonical, and the number of allocations that capn_check makes. */
+    /* These fields have the results of capn_canonical for this input, and the number of allocations that capn_check
+     * makes for it. */
     capn_status status;
     capn_report report;
     uint8_t *canonical;

@@ -14,8 +14,7 @@ enum { MOST = 4096, ROUNDS = 40 };
 static uint8_t *guarded;
 static unsigned long long held_messages, accepted_messages, several;
 
-/* A `_segments` call must return the same status as the same call for a stream, and write the same report and the same
- * bytes. */
+/* A `_segments` call must return the same status, the same report and the same bytes as the call for a stream. */
 static void same(const char *what, capn_status status, capn_status wanted, const capn_report *report,
                  const capn_report *told, const void *left, const void *right, size_t size) {
     want(what, status, wanted);
@@ -23,7 +22,7 @@ static void same(const char *what, capn_status status, capn_status wanted, const
     want("its answer", size && memcmp(left, right, size) != 0, 0);
 }
 
-/* Compares each `_segments` call with the same call for a stream. */
+/* Compares the results of each `_segments` call with those of the call for a stream. */
 static void compare(const capn_segment *segments, size_t count, const uint8_t *frame, size_t size,
                     const capn_limits *limits) {
     capn_report report, told;

@@ -73,8 +73,8 @@ static char *text_of(const struct input *in, size_t *length, capn_status *status
     return text;
 }
 
-/* Calls capn_show while one of its allocations fails, for each allocation in turn. When no allocation fails, the call
- * has to return `wanted`. */
+/* Repeats a call of capn_show. In each run, one more allocation succeeds before the others fail. When no allocation
+ * fails, the call has to return `wanted`. */
 static void refuse_each(const struct input *in, capn_status wanted) {
     capn_status status = CAPN_MEMORY;
     const long before = live;

@@ -1,6 +1,6 @@
 /* Makes calls with many inputs, so that some call returns each status of capn.h. All calls have to agree on the status
- * of an input. Prints the statuses that the calls returned, as numbers, in order. `tests/c/run` compares these numbers
- * with those of the header. */
+ * of an input. Prints the number of each returned status, in ascending order. `tests/c/run` compares these numbers with
+ * those of the header. */
 #include "refusing.h"
 #include "usual.h"
 #include <stdio.h>
@@ -140,7 +140,8 @@ static void reading(void) {
 }
 
 /* Passes packed bytes that unpack to more words than a message with the longest segment table may have. Also passes
- * more words than a message without a segment table may have. These words lie in memory that can't be accessed. */
+ * more words than a message without a segment table may have. The memory of the words without a segment table can't be
+ * accessed. */
 static void too_long(void) {
     const capn_limits one = limits_of(1, 1, 1, CAPN_STRICT);
     uint8_t zeros[18];

@@ -8,7 +8,7 @@
 
 static uint8_t *of_digits(const char *digits, size_t *size) {
     *size = strcmp(digits, "-") ? strlen(digits) / 2 : 0;
-    /* This block has exactly the size of the bytes, so that a sanitizer detects a read past the end. */
+    /* This block has exactly the size of the decoded bytes, so that a sanitizer detects a read past the end. */
     uint8_t *bytes = *size ? malloc(*size) : NULL;
     for (size_t i = 0; i < *size; i++) {
         unsigned byte;

@@ -1,5 +1,5 @@
 /* Tests capn_refusal_way, which finds the path to an error, and capn_departure, which finds the first difference from
- * the canonical form. The call gets an array of the right length, a longer array, a shorter array, or no array. The
+ * the canonical form. Each call gets an array of the right length, a longer array, a shorter array, or no array. The
  * test also makes each allocation fail once. */
 
 /* Each line of standard input is a call, and ends with bytes in hexadecimal. The argument says what the program does:
@@ -83,7 +83,7 @@ static void rooms(call *make, const struct input *in, capn_status status, const 
     }
 }
 
-/* Repeats a call until the call succeeds. In each run, one more allocation succeeds before the others fail. */
+/* Repeats a call until the call has enough memory. In each run, one more allocation succeeds before the others fail. */
 static void refuse_each(call *make, const struct input *in, capn_status wanted) {
     capn_status status = CAPN_MEMORY;
     const capn_report none = {0, 0, 0, 0, 0, 0};
