@@ -31,8 +31,8 @@ def pairs(page):
 
 
 def tried(shell, capn):
-    """Runs the code blocks of docs/GUIDE.md. Returns how many blocks ran, and how many blocks failed or printed another
-    output than the page shows."""
+    """Runs the code blocks of docs/GUIDE.md. Returns how many blocks ran. Also returns how many blocks failed, or
+    printed output that differs from the page."""
     ran = wrong = 0
     with tempfile.TemporaryDirectory() as folder:
         here = Path(folder)

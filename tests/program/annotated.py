@@ -1,6 +1,6 @@
 #!/usr/bin/env python3
-"""A second implementation of the command `annotate`, in Python. It was written from the definition of the command's
-lines. The module `model` has the other commands.
+"""A second implementation of the command `annotate`, in Python. It was written from the definition of the lines that
+`annotate` prints. The module `model` has the other commands.
 
     tests/program/annotated.py [OPTION..] < INPUT
 
@@ -120,7 +120,7 @@ class Cover:
 
     def kept(self, part):
         """Canonical bytes leave out zeros at the end of a struct. Returns how many data words and how many slots
-        remain. All structs of a list keep equally many."""
+        remain. These two numbers are the same for all structs of a list."""
         if part.shape[0] == "struct":
             rows, data, slots, first = 1, *part.shape[1:], 0
         else:
@@ -283,7 +283,7 @@ def table_line(frame, offset, segments):
 
 
 def annotation(walk, segments, index, offset, frame):
-    """Returns the lines of an accepted message, and the three columns of its last line."""
+    """Returns the lines of an accepted message, and the three columns of the last line."""
     end = offset + len(frame)
     notes = Notes(segments, end - sum(map(len, segments)))
     head = [table_line(frame, offset, segments)] if len(frame) > sum(map(len, segments)) else []

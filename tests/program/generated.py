@@ -103,8 +103,8 @@ def plant_tag(rng, segments):
 
 
 def plant_run(rng, segments):
-    """Changes the last word of a segment and the first word of the next segment. The two words become zero, or become a
-    word that packing copies unchanged. So a run of packed words can cross the border between the segments."""
+    """Changes the last word of a segment and the first word of the next segment. Both words become zero, or both become
+    a word that packing copies unchanged. So a run of packed words can cross the border between the segments."""
     at = rng.randrange(len(segments))
     after = (at + 1) % len(segments)
     if segments[at] and segments[after]:
@@ -139,7 +139,7 @@ def framed(segments):
 
 
 def numbers(rng, count):
-    """Returns words of data: any bits, a small number, or zero."""
+    """Returns random data words. Each word has random bits, or is zero, a small number or 2^63."""
     return [rng.choice([0, rng.randrange(9), 1 << 63, rng.getrandbits(64), rng.getrandbits(64)]) for _ in range(count)]
 
 

@@ -1,5 +1,5 @@
-"""Reads the help texts of all commands from the file tests/program/help. It finds the commands, options and exit
-statuses in these texts.
+"""Reads the help texts of all commands from the file tests/program/help. Finds the commands, options and exit statuses
+in these texts.
 
 `statuses` compares that file with the output of the program. Manual pages, completions and tables take their
 descriptions of commands from it.

@@ -110,8 +110,8 @@ def packed(data):
 # Traversals.
 
 
-# The limits that are numbers. Each limit has three numbers: the share of random test runs that set it, its least value,
-# and its greatest value.
+# The limits that are numbers. For each limit, the tuple has the share of random test runs that set the limit, its least
+# value, and its greatest value.
 LOW_LIMITS = {"budget": (0.3, 0, 30), "depth": (0.2, 1, 5), "message_words": (0.2, 1, 12)}
 
 
@@ -561,7 +561,7 @@ def run_hash(data, **options):
 
 
 def without_capability(walk):
-    """Takes the traversal of a message. Returns it unchanged, or raises an error if the message has a capability."""
+    """Takes the traversal of a message, and returns this traversal. Raises an error if the message has a capability."""
     if walk.capability is not None:
         raise Refused(f"capability {walk.capability}")
     return walk

@@ -49,7 +49,7 @@ MESSAGES = [
      [line(0, ROOT, "POINTER", None), line(8, (0, 1), "POINTER", ROOT), line(16, (0, 2), "POINTER", ROOT),
       line(24, (0, 3), "TAG", (0, 1)), line(32, (0, 4), "DATA", (0, 1)),
       line(40, (0, 5), "DATA", (0, 1), times=2, overlap=True), line(48, (0, 6), "SLACK", (0, 1))]),
-    # A list of 17 bytes. In its last word, a byte after the list isn't zero.
+    # A list of 17 bytes. The padding after these bytes isn't all zero.
     ("010000008a000000" "6161616161616161" "0000000000000000" "6100000000000009", "bare",
      [line(0, ROOT, "POINTER", None), line(8, (0, 1), "LIST", ROOT, words=3, not_zero=2, padding=True)]),
     ("0000000000000000", "bare", [line(0, ROOT, "NULL", None, not_zero=0)]),
@@ -153,8 +153,8 @@ class Annotated(unittest.TestCase):
             self.assertEqual(lines, wanted(segments, len(table)), data.hex())
             accepted += 1
             kinds.update((one.kind, one.overlap, one.padding, one.cut > 0, one.times > 1) for one in lines)
-        # At least a third of the messages are accepted. Each kind of line, and each other property of a line, occurs in
-        # at least one accepted message.
+        # At least a third of the messages are accepted. Each kind of line occurs in at least one of them, and so does
+        # each property of a line.
         self.assertGreater(accepted, TRIED // 3)
         self.assertEqual({kind for kind, *_ in kinds}, set(LineKind))
         for at in range(1, 5):

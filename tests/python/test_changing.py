@@ -10,9 +10,9 @@ import unittest
 import capn
 from messages import bare, stream
 
-# One thread makes calls on a message, while another thread makes pointers of the message lead far outside, and restores
-# them. If the calls read the bytes in place, the process crashes within seconds or gets wrong results. The arguments
-# are the number of seconds, and whether the calls read in place.
+# One thread makes calls on a message, while another thread changes pointers of the message. A changed pointer leads far
+# outside of the message until the thread restores it. If the calls read the bytes in place, the process crashes within
+# seconds or gets wrong results. The arguments are the number of seconds, and whether the calls read in place.
 RACE = """
 import sys, threading, time
 import capn

@@ -68,13 +68,13 @@ def segments_of(source):
     if kind < 0.5:
         return generated.message(source)
     if kind < 0.6:
-        # Returns a list of bytes. In some cases, bits are set in the last word after the last byte of the list.
+        # Returns a list of bytes. In some of these lists, the padding after the last byte isn't zero.
         count = source.randint(1, 7)
         return [[1 | 2 << 32 | count << 35, source.getrandbits(8 * count + source.choice([0, 0, 8]))]]
     segments = archives.good(source)
     segment = source.choice([one for one in segments if one])
-    # Takes the greatest of three random indexes. The chosen word is then likely to be near the end of the segment, and
-    # therefore deep in the message.
+    # Takes the greatest of three random indexes of words. The word with this index is then likely to be near the end of
+    # the segment, and so deep in the message.
     at = max(source.randrange(len(segment)) for _ in range(3))
     wrong = [3 | source.randrange(4) << 32, generated.pointer(source, len(segment), len(segments))]
     segment[at] = source.choice([*wrong, segment[at] ^ 1 << source.randrange(64)])
@@ -94,7 +94,7 @@ def input_of(source):
 
 class AsExplained(unittest.TestCase):
     def compare(self, data, form, limits, told, found):
-        """Makes all calls on one message. Counts in the dictionary `found` how often each result came."""
+        """Makes all calls on one message. Counts in the dictionary `found` how often each result occurs."""
         if told.get("accepted"):
             departure = capn.departure(data, form, limits)
             self.assertEqual(told["canonical"], "yes" if departure is None else f"no: {departure}")

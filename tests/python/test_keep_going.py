@@ -26,7 +26,8 @@ def told(found):
 
 
 def ways(data, packed):
-    """Yields functions. Each makes a reader with `keep_going` that reads the given bytes from another kind of file."""
+    """Yields functions. Each makes a reader with `keep_going` over the given bytes. The readers use different kinds of
+    files."""
     for ahead in False, True:
         for file in data, io.BytesIO(data), io.BufferedReader(io.BytesIO(data), 16), Pieces(data, 7):
             yield lambda f=file, a=ahead: capn.messages(f, packed, read_ahead=a, keep_going=True)

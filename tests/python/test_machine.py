@@ -60,8 +60,8 @@ class Threads(unittest.TestCase):
         self.addCleanup(sys.setswitchinterval, sys.getswitchinterval())
 
     def test_another_thread_runs_during_each_call(self):
-        # This setting keeps the interpreter from switching threads on its own. So another thread runs only if a call
-        # releases the interpreter's lock.
+        # This switch interval is so long that the interpreter doesn't switch threads on its own. So another thread runs
+        # only if a call releases the interpreter's lock.
         sys.setswitchinterval(1000)
         message = stream(SEGMENT)
         packed, look = capn.pack(message), self.looks(message[:-8] + b"\7" + bytes(7))

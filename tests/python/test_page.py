@@ -18,7 +18,8 @@ MESSAGE = bytes.fromhex("0000000003000000" "0000000002000000" "0500000000000000"
 WRONG = bytes.fromhex("0000000001000000" "0000000001000000")
 # A message with a struct whose only pointer is a capability with the index 2.
 CAPABILITY = bytes.fromhex("0000000002000000" "0000000000000100" "0300000002000000")
-# A message whose root struct has a list of two structs as its pointer 1. The first of these two has the name "ab".
+# A message with a list of two structs. Pointer 1 of the root struct refers to this list. The name in the first struct
+# of the list is "ab".
 CHILDREN = bytes.fromhex("0000000007000000" "0000000000000200" "0000000000000000" "0100000017000000" "0800000000000100"
                          "050000001a000000" "0000000000000000" "6162000000000000")
 TEXT = bytes.fromhex("0000000004000000" "0000000001000100" "0500000000000000" "0100000022000000" "6162630000000000")
@@ -112,15 +113,16 @@ class Page(unittest.TestCase):
         self.assertEqual(self.run_on(MESSAGE, read), (0, "2 nobody\n"))
         self.assertEqual(self.run_on(bytes(4) + b"\1" + bytes(11), read), (0, "7 nobody\n"))
         self.assertEqual(self.run_on(CHILDREN, read), (0, "7 nobody\nab\nnobody\n"))
-        # An older writer may have written the children as texts or as numbers. Each child is then read as a struct with
-        # one field, which is the text or the number.
+        # An older writer may have written the children as texts or as numbers. Each child is then read as a struct
+        # whose only field is this text or number.
         self.assertEqual(self.run_on(children("0100000016000000" "0500000012000000" "0000000000000000"
                                               "6100000000000000"), read), (0, "7 nobody\na\nnobody\n"))
         for numbers in "0100000010000000", "0100000012000000", "0100000013000000", "0100000014000000":
             self.assertEqual(self.run_on(children(numbers + "0500000000000000"), read),
                              (0, "7 nobody\nnobody\nnobody\n"))
         # Each of these inputs has one error. The errors are a text without its last zero byte, a text that isn't UTF-8,
-        # an object of another kind than the program expects, bytes after the message, and too many levels.
+        # an object of a kind that the program doesn't expect, bytes after the message, and too many levels of nested
+        # structs.
         for message, why in (
             (TEXT.replace(b"\x22", b"\x1a"), "the last byte of a text is zero"),
             (TEXT.replace(b"abc", b"\xffbc"), "'utf-8' codec can't decode byte 0xff"),

@@ -53,8 +53,8 @@ class Shown(unittest.TestCase):
         for case, answer in stored():
             found = RUN.fullmatch(case)
             words = found[1].split() if found else []
-            # The last word of a stored test case of `show` is the message. The package can't print offsets and paths,
-            # so the test leaves out cases that have them.
+            # A stored test case of `show` is a command line, followed by the message in hexadecimal. The package can't
+            # print offsets and paths, so the test leaves out cases with `--offsets` or `--ways`.
             if not found or not answer.startswith("status ") or answer.startswith("status 2"):
                 continue
             if {"--offsets", "--ways"} & set(words):

@@ -62,8 +62,8 @@ def taken(found):
 
 
 class EachCall(unittest.TestCase):
-    """Reads each stream many times. In each run, an exception interrupts another call inside the package: a later one
-    than in the run before."""
+    """Reads each stream many times. In each run, an exception interrupts one call inside the package. In the next run,
+    it interrupts a later call."""
 
     def files(self, data, folder):
         """Yields functions that make files with the given bytes. Each function makes another kind of file."""
@@ -103,7 +103,7 @@ class EachCall(unittest.TestCase):
         yield lambda: Peeking([data[:9], data[9:11], data[11:]])
 
     def each(self, data, make, wanted):
-        """Reads each kind of file many times. Each time, the exception is raised after another number of calls. No
+        """Reads each kind of file many times. Each time, the exception is raised after a different number of calls. No
         message may be missing."""
         with tempfile.TemporaryDirectory() as folder:
             for number, file_of in enumerate(self.files(data, folder)):

@@ -21,10 +21,10 @@ class Canonical(unittest.TestCase):
     table."""
 
     def test_a_frame(self):
-        # Without the argument `form`, the bytes are read as one segment without a segment table. The segment table is
-        # then taken as the root pointer, to a struct. Read so, the bytes are canonical, since the last word of this
-        # struct isn't zero. Read with their segment table, they aren't canonical, since the last data word of the root
-        # struct is zero.
+        # Without the argument `form`, the bytes are read as one segment without a segment table. The call then takes
+        # the segment table for the root pointer, which refers to a struct. Read in this way, the bytes are canonical,
+        # since the last word of this struct isn't zero. Read with their segment table, they aren't canonical, since the
+        # last data word of the root struct is zero.
         loose = stream(bare(("struct", [5, 0], [text("abc")])))
         with self.assertWarnsRegex(DeprecationWarning, "^is_canonical without a form reads the words") as caught:
             self.assertTrue(capn.is_canonical(loose))
@@ -127,7 +127,7 @@ class Schemas(unittest.TestCase):
     def test_lists_of_other_schemas(self):
         # Reads each value as a list of structs, as a list of 16-bit numbers, and as a list of pointers. For the list of
         # structs, the expected result has the first number of each struct, and the kind of the struct's first pointer.
-        # For the list of pointers, it has their kinds. None stands for an error.
+        # For the list of pointers, the expected result has the kind of each pointer. None stands for an error.
         two = (0x10003).to_bytes(8, "little")
         for value, rows, numbers, pointers in (
             (None, [], [], []),

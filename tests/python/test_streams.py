@@ -241,7 +241,7 @@ class NoByteAfterIt(unittest.TestCase):
 
 class Wound(unittest.TestCase):
     """Tests files with `seek`. A reader may look ahead, and find several messages at once. It returns one of them only
-    if the position of the file is still the beginning of this message."""
+    if the file's position is then still at the beginning of this message."""
 
     def files(self, data, folder):
         path = os.path.join(folder, "file")

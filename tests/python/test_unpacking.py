@@ -91,7 +91,7 @@ class Splitters(unittest.TestCase):
         self.assertLess(took, 16 * MIB)
 
     def test_as_many_as_were_fed_come_at_once(self):
-        # These packed bytes don't unpack to very many bytes, so one call returns all messages in them.
+        # The packed bytes in this test don't unpack to very many bytes, so one call returns all messages in them.
         source = random.Random(5)
         parts = [stream(source.randbytes(8 * source.randint(0, 40))) for _ in range(60_000)]
         splitter = capn.Splitter("packed")

@@ -34,7 +34,8 @@ def text(written):
 
 
 def capability(number):
-    """Returns the capability of a message, which is the only pointer of the root struct."""
+    """Makes a message whose root struct has one pointer, a capability with the index `number`. Returns this
+    capability."""
     return capn.read(struct.pack("<2Q", 1 << 48, 3 | number << 32), "bare").root.slots[0]
 
 
@@ -249,8 +250,7 @@ class Fields(unittest.TestCase):
     def test_defaults(self):
         for kind in "Old", "New":
             self.assertEqual(self.fields(self.encoded(kind, "()")), self.USUAL)
-        # Reads structs that have no pointers, and fewer words than their type. The result for each field is its
-        # default.
+        # Reads structs that have no pointers, and fewer words than their type has. Each field then has its default.
         for words in range(7):
             root = capn.read(bare(("struct", [0] * words, [])), "bare").root
             self.assertEqual(self.fields(root), self.USUAL)
