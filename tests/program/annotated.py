@@ -20,8 +20,8 @@ import model
 KINDS = ["pointer", "null", "pad", "tag", "data", "list", "slack", "unreached"]
 # A line quotes at most this many bytes of a list.
 QUOTED = 32
-# A line has one word if its kind is in ALONE. Any other line goes on while the words have the same kind, belong to the
-# same visit and are covered equally often.
+# A line has one word if its kind is in ALONE. Any other line goes on as long as its words have the same kind, belong to
+# the same visit and are covered equally often.
 ALONE = ("pointer", "pad", "tag")
 
 # A part of a message: an object or a landing pad. `way` is the path to its pointer. `segment` and `begin` say where its

@@ -1,5 +1,5 @@
 """Makes the generated messages of the tests from fixed seeds. Other scripts import this file. The tests of C, C++, Go
-and Rust read what it writes.
+and Rust read the output of this script.
 
     generated.py calls COUNT     writes calls for tests/c/vectors.c on COUNT messages. A line has a call, a form, limits
                                  and the message. Some messages are truncated.

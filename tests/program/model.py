@@ -417,8 +417,8 @@ class Marked:
         return text
 
     def below(self, there, step):
-        """Returns the part with the number `step` directly below an object or below a struct of a list. Returns None if
-        there is no such part."""
+        """Looks at the parts directly below an object, or directly below a struct in a list. Returns the part with the
+        number `step`, or None if there is no such part."""
         segment, at, row = there
         if row is None:
             word = self.walk.word(segment, at)
@@ -633,8 +633,8 @@ def listed(head, walk, segments, with_digest):
 
 
 def needed(greatest, found, tariff):
-    """Returns the lines of `limits`: the count of messages, the greatest value of each statistic, and for each of these
-    values the message that has it."""
+    """Returns the lines of `limits`. The lines have the count of messages, and the greatest value of each statistic.
+    Each of these values comes with the message that has it."""
     most = 2**28
     words, paid, deep = (greatest[name][0] for name in greatest)
     lines = [f"messages {found}"]

@@ -33,7 +33,8 @@ try:
 except capn.Refusal as refused:
     refusal = refused
 """
-# Reads the path of the exception while no memory is left. Reads the path again after the memory limit is lifted.
+# Reads the path that the exception reports, while no memory is left. Reads the path again after the memory limit is
+# lifted.
 WAY = """
 try:
     refusal.way

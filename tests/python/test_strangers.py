@@ -142,8 +142,8 @@ class Schemas(unittest.TestCase):
             (("pointers", [text("abc"), None]), [(0, "bytes"), (0, "null")], None, ["bytes", "null"]),
             (("rows", 1, 2, [([0x10003], [None, None]), ([4], [text("abc"), None])]), [(3, "null"), (4, "bytes")],
              [3, 4], ["null", "bytes"]),
-            # If a struct has no words, the test reads the default as its number. If the struct has no pointers, the
-            # test reads null as its pointer.
+            # If a struct has no words, its number is read as the default, 0. If a struct has no pointers, its pointer
+            # is read as null.
             (("rows", 1, 0, [([5], [])]), [(5, "null")], [5], ["null"]),
             (("rows", 0, 1, [([], [text("abc")])]), [(0, "bytes")], [0], ["bytes"]),
             (("rows", 0, 0, [([], [])] * 2), [(0, "null")] * 2, [0, 0], ["null", "null"]),
@@ -221,7 +221,7 @@ class Schemas(unittest.TestCase):
 
     def test_structs_without_words_are_zeros_and_without_pointers_nulls(self):
         # The message `long` is a list of two structs, which have one zero word each. The message `short` is the
-        # canonical bytes of `long`. Its structs have no words.
+        # canonical bytes of `long`. The structs of `short` have no words.
         long = [0x1000000000000, 0x1700000001, 0x100000008, 0, 0]
         short = [0x1000000000000, 0x700000001, 0x8]
         messages = [b"".join(word.to_bytes(8, "little") for word in words) for words in (long, short)]

@@ -255,8 +255,8 @@ class Wound(unittest.TestCase):
         yield Failing(data)
 
     def each(self, parts, run):
-        """Makes files of each kind with the given parts, packed and unpacked. Runs a test on each file. The test gets
-        the file, its reader, and the bytes of each part in the file."""
+        """Makes files of each kind. A file has the given parts, either packed or unpacked. Runs a test on each file.
+        The test gets the file, its reader, and the bytes of each part in the file."""
         with tempfile.TemporaryDirectory() as folder:
             for packed in False, True:
                 sent = [capn.pack(part) if packed else part for part in parts]

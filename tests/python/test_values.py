@@ -266,7 +266,7 @@ class Fields(unittest.TestCase):
         new = self.encoded("New", written.format("[(number = 1), (number = 2, name = \"x\")]"))
         self.assertEqual((self.fields(old), self.fields(new)), (wanted, wanted))
         self.assertEqual((old.slots[1].kind, new.slots[1].kind), ("u16", "rows"))
-        # A field that exists only in the newer type can also be read from the message of the older type.
+        # Some fields exist only in the newer type. Such a field can also be read from a message of the older type.
         self.assertEqual((old.uint(64, 6, 9), new.uint(64, 6, 9), old.text(2), new.text(2, "x")), (9, 9, "", "x"))
 
     def test_the_number_of_the_review(self):
