@@ -227,8 +227,8 @@ class Notes:
                     "" if way is None else explained.dotted(way), text)
 
     def text(self, segment, at, end, kind):
-        """Returns the text of a line, and the number to add to the count `hidden`. The text lacks two endings: the one
-        about overlaps, and the one about words that canonical bytes leave out."""
+        """Returns the text of a line, and the number to add to the count `hidden`. The text lacks the ending about
+        overlaps, and the ending about words that canonical bytes leave out."""
         number, size = self.cover.starts[segment] + at, end - at
         word, part = self.value(number), self.cover.parts[number]
         if kind == "null":

@@ -43,7 +43,7 @@ MESSAGES = [
       line(32, (1, 1), "DATA", ROOT, cut=1, not_zero=0), line(40, (1, 2), "POINTER", ROOT),
       line(48, (1, 3), "POINTER", ROOT), line(56, (1, 4), "NULL", ROOT, cut=1, not_zero=0),
       line(64, (1, 5), "LIST", (1, 2), times=2)]),
-    # A list of two structs, and one more word of this list behind them. A list of u32 overlaps the second struct.
+    # A list of two structs. The list has one more word behind the structs. A list of u32 overlaps the second struct.
     ("0000000000000200" "050000001f000000" "0900000014000000" "0800000001000000" "0700000000000000" "0900000000000000"
      "ffffffffffffffff", "bare",
      [line(0, ROOT, "POINTER", None), line(8, (0, 1), "POINTER", ROOT), line(16, (0, 2), "POINTER", ROOT),

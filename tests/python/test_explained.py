@@ -1,4 +1,4 @@
-"""Tests the place of an error, and the first difference of a message from its canonical form. Compares each with a
+"""Tests the place of an error, and the first difference of a message from its canonical form. Compares both with a
 second implementation in Python, with the stored results of the program, and with the program itself if it is built."""
 import dataclasses
 import random

@@ -1,5 +1,5 @@
-"""Tests that the calls of the Python package return the same results and errors as the program `capn`. Also tests this
-on messages of the reference implementation.
+"""Tests that the calls of the Python package return the same results and errors as the program `capn`. Some of the
+messages come from the reference implementation.
 
 The program is the one that CAPN names, or the one that `make program` builds. Without a program, all tests are skipped.
 """

@@ -1,5 +1,5 @@
-"""Tests properties that every value and any bytes must have. The Python package Hypothesis draws the values and the
-bytes at random."""
+"""Tests properties that must hold for every value and for any bytes. The Python package Hypothesis draws the values and
+the bytes at random."""
 import hashlib
 import unittest
 

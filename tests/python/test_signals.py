@@ -66,7 +66,7 @@ class EachCall(unittest.TestCase):
     it interrupts a later call."""
 
     def files(self, data, folder):
-        """Yields functions that make files with the given bytes. Each function makes another kind of file."""
+        """Yields functions that make files with the given bytes. Each function makes a different kind of file."""
         path = os.path.join(folder, "file")
         with open(path, "wb") as file:
             file.write(data)
@@ -128,7 +128,7 @@ class EachCall(unittest.TestCase):
                               lambda file: capn.messages(file, packed, read_ahead=ahead), MESSAGES)
 
     def test_digests(self):
-        # Leaves out the message without words. It has no digest, so it would be rejected and end the test.
+        # Leaves out the message without words. This message has no digest, so it would be rejected and end the test.
         messages = [it for it in MESSAGES if it != stream(b"")]
         self.each(b"".join(messages), capn.digests, [capn.digest(message) for message in messages])
 
