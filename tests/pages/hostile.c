@@ -1,5 +1,6 @@
 /* Calls the functions of the examples in docs/C.md. Each code block of that page is compiled alone, and linked with
- * this program. Each message has its own block of memory, so that a sanitizer detects a read past its end. */
+ * this program. Each message has its own block of memory, so that a sanitizer detects a read past the end of the
+ * message. */
 
 /* The commands of this program:
  *   - `hostile CALL [DEPTH] < MESSAGE` calls one function on standard input, with the nesting limit DEPTH

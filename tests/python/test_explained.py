@@ -74,7 +74,7 @@ def segments_of(source):
     segments = archives.good(source)
     segment = source.choice([one for one in segments if one])
     # Takes the greatest of three random indexes of words. The word with this index is then likely to be near the end of
-    # the segment, and so deep in the message.
+    # the segment, and therefore deep in the message.
     at = max(source.randrange(len(segment)) for _ in range(3))
     wrong = [3 | source.randrange(4) << 32, generated.pointer(source, len(segment), len(segments))]
     segment[at] = source.choice([*wrong, segment[at] ^ 1 << source.randrange(64)])
@@ -167,8 +167,8 @@ class AsExplained(unittest.TestCase):
         self.assertGreater(len(ways), 10)
 
     def test_long_tables(self):
-        # The root is in the first segment. The last segment has a landing pad and a struct, whose only pointer is
-        # invalid.
+        # The root is in the first segment. The last segment has a landing pad and a struct. The only pointer of this
+        # struct is invalid.
         for count in 2, 3, 64, 65, 66, 4095, 4096:
             first = (2 | (count - 1) << 32).to_bytes(8, "little")
             last = struct.pack("<3Q", 1 << 48, 7 << 2 | 3, 0)
