@@ -82,7 +82,8 @@ def copied(names, edits, room):
 
 
 def told(line):
-    """Prints a line of progress for the user. If CAPN_PROGRESS names a file descriptor, writes the line there."""
+    """Prints a line of progress for the user. If CAPN_PROGRESS has the number of a file descriptor, writes the line to
+    this descriptor instead of standard output."""
     at = os.environ.get("CAPN_PROGRESS")
     with os.fdopen(os.dup(int(at)), "w") if at else os.fdopen(os.dup(1), "w") as out:
         print(line, file=out, flush=True)

@@ -1,6 +1,6 @@
 /* calls OPERATION STEPS < MESSAGE: does an operation of the C library STEPS times, on a message with its segment table.
- * The program prints the length of the message in bytes. It allocates all buffers first. bench/count counts the
- * instructions of one operation. */
+ * The program prints the length of the message in bytes. It allocates all buffers before the first operation.
+ * bench/count uses this program to count the instructions of one operation. */
 #include "capn.h"
 #include <stdio.h>
 #include <stdlib.h>

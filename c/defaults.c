@@ -1,7 +1,8 @@
 /* The functions of capn.h. Each passes its arguments to a proved (formally verified) function of the same name, which
  * `make linked` renames to proved_capn_* and hides. Null pointers are replaced first: `limits` by the default limits,
- * and `report` or `which` by the address of a local variable. If no argument is null, this takes two comparisons and a
- * jump. The code of this file isn't proved. It keeps no state, and reads and writes only its arguments. */
+ * and `report` or `which` by the address of a local variable. If no argument is null, the checks for null take two
+ * comparisons and a jump. The code of this file isn't proved. It keeps no state, and reads and writes only its
+ * arguments. */
 #include "capn.h"
 
 static const capn_limits usual = CAPN_USUAL_LIMITS;

@@ -33,9 +33,9 @@ MOST_LINES = 40
 # A job tests a crate. It has the name of the crate, a word that says what is tested, and a function that returns the
 # errors and the output.
 Job = collections.namedtuple("Job", "crate what run")
-# The code of a test file: its crate, its imports from the product, and the words of the rest. `calls` has the words
-# before a parenthesis, and `dotted` has those after a dot and before a parenthesis. `paths` has the pairs of words
-# around `::`.
+# The code of a test file: its crate, its imports from the product, and the words of its other code. `calls` has the
+# words before a parenthesis, and `dotted` has those after a dot and before a parenthesis. `paths` has the pairs of
+# words around `::`.
 Code = collections.namedtuple("Code", "crate imports words calls dotted paths")
 # An exported function, and the crate that exports it. For the calls of c/capn.h, the name of the crate is `c`.
 Function = collections.namedtuple("Function", "crate name")
@@ -152,8 +152,8 @@ def cases_job(crate, cases):
         with tempfile.TemporaryDirectory() as folder:
             for number, part in enumerate(parts):
                 with open(os.path.join(folder, f"{number:04}"), "w", encoding="utf-8") as file:
-                    # With the word `few`, a test makes only some allocations of each call fail. `make test`, which runs
-                    # the compiled code, makes each allocation fail in turn.
+                    # If the word `few` is before a call, the program makes only some of the call's allocations fail. In
+                    # `make test`, which runs the compiled code, the program makes each allocation fail in turn.
                     file.write(stored.asked(part, "few "))
             # `rt try` interprets the program. The interpreter can't run code that allocates memory from the system.
             status, out, said = try_crate(crate, ["--steps", "1", "--seconds", str(SECONDS), "--cases", folder])
@@ -221,8 +221,8 @@ def methods(crate, types):
 
 def exported():
     """Yields the functions that tests have to name: the functions and methods that the crates of the product (capn*)
-    export, and the calls of c/capn.h. Leaves out the laws, and what a crate of the product exports again from another
-    one."""
+    export, and the calls of c/capn.h. Leaves out the laws, and what a crate of the product imports from another crate
+    and exports again."""
     for crate in product():
         own = [name for path, name in items(crate) if path.split("::")[0] not in product()]
         yield from (Function(crate, name) for name in dict.fromkeys(own) if name[0].islower())
@@ -284,8 +284,8 @@ def providers(crate, name):
 
 def is_named(function, file):
     """Returns whether a test file uses an exported function. The file has to import the function, or the type of the
-    method, from a crate that exports it. The name also has to occur outside of the import, or after the name of an
-    imported module, as in `MODULE::NAME`."""
+    method, from a crate that exports it. The file also has to use the imported name outside of the import. Or it has to
+    use the name of an imported module, as in `MODULE::NAME`."""
     if function.crate == "c":
         return not file.crate and function.name in file.calls
     item, _, method = function.name.partition("::")

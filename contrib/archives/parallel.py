@@ -34,8 +34,8 @@ PASSED_OVER = re.compile(rb"capn: (\d+) of (\d+) messages refused, the first is 
 
 class Part(NamedTuple):
     """A part of an archive: the number of messages before it, where it begins, its number of messages, and where it
-    ends. A part has only complete messages. Only the last part may have any bytes: it is the rest of the archive, and
-    its end isn't given."""
+    ends. The last part is the rest of the archive: its end isn't given, and it may have bytes that aren't a complete
+    message. Each other part has only complete messages."""
 
     before: int
     begin: int

@@ -23,8 +23,8 @@ from contextlib import closing
 from itertools import islice
 from typing import NamedTuple
 
-# `capn list` counts costs by the rule `plain`, which counts only words. The cost of a message that uses all of its
-# words is one less than its number of words, because the rule doesn't count the root pointer.
+# `capn list` counts costs by the rule `plain`, which counts only words. The rule doesn't count the root pointer. So the
+# cost of a message without unused words is one less than its number of words.
 LIST = [os.environ.get("CAPN", "capn"), "list", "--keep-going", "--tariff", "plain"]
 LIMITS = [LIST[0], "limits"]
 LINE = re.compile(rb"\d+ at (\d+) bytes (\d+) segments \d+ words (\d+) (?:paid (\d+) |refused (.*))")
@@ -116,8 +116,9 @@ class Sample:
         return message.cost is not None and (message.cost > 0 or self.has_null)
 
     def is_like(self, message: Message) -> bool:
-        """Returns whether a message is accepted and looks like the messages of the sample: it isn't longer than the
-        longest of them, and has no more unused words than they have."""
+        """Returns whether the script accepts a message, and the message looks like those of the sample. Such a message
+        isn't longer than the longest message of the sample. It has at most as many unused words as the message of the
+        sample with the most unused words."""
         return self.takes(message) and message.words <= min(self.words, self.unused + (message.cost or 0))
 
 
@@ -165,8 +166,9 @@ class Archive:
         return self.first_good(rows) or self.size
 
     def ends(self, at: int) -> list[int]:
-        """Returns the ends of the messages in a row that begins at byte `at`, by their segment tables. Returns no ends
-        if `end` returns 0 for a message. A row has `self.row` messages, or fewer if the archive ends first."""
+        """Returns where the messages of a row end, according to their segment tables. The row begins at byte `at`.
+        Returns no ends if the method `end` returns 0 for a message. A row has `self.row` messages, or fewer if the
+        archive ends first."""
         ends: list[int] = []
         while len(ends) < self.row and at < self.size:
             at = self.end(at)
@@ -178,8 +180,8 @@ class Archive:
         return ends
 
     def end(self, at: int) -> int:
-        """Returns the end of the message that begins at byte `at`, by its segment table. Returns 0 if the message has
-        more words than the sample allows."""
+        """Returns where the message that begins at byte `at` ends, according to its segment table. Returns 0 if the
+        message has more words than the sample allows."""
         if at + 8 > self.size:
             return self.size + 1
         last, first = struct.unpack_from("<II", self.data, at)
@@ -206,7 +208,7 @@ class Archive:
     def between(self, bad: Message, good: int) -> Iterator[Span]:
         """Yields ranges of bytes: the bad message, and what comes before the next good message. If the segment tables
         lead from the bad message exactly to the good message, they say where each message in the middle begins. Then
-        every accepted message in the middle is kept, even if it isn't like the sample."""
+        every message in the middle that the script accepts is kept, even if it isn't like those of the sample."""
         end = bad.begin
         with closing(listed(self.path, bad.begin)) as found:
             for message in found:

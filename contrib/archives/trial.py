@@ -114,8 +114,8 @@ def recover(source: random.Random, messages: list[bytes]) -> None:
     zeros = tail[:16] + bytes(first + len(after[1]) - 8) + tail[first + len(after[1]) + 8:]
     recovered("zeros", head + zeros, before + after[3:], (at, sum(map(len, after[:3])), fault_of(zeros)))
     recovered("13 bytes lost", head + rest[13:], before + after[2:], (at, len(after[1]) - 13, fault_of(rest[13:])))
-    # Tries archives with two rejected messages and a good message between them, with long messages, and with a message
-    # that has a gap. recover.py must not lose the message with a gap.
+    # Tries more archives. The first has two rejected messages, and a good message between them. The second has long
+    # messages. The third has a message with a gap, which recover.py must not lose. The last is truncated.
     refused = REFUSED + after[0] + REFUSED
     recovered("two refused", head + refused + rest, messages, (at, len(REFUSED), fault_of(REFUSED)),
               (at + len(refused) - len(REFUSED), len(REFUSED), fault_of(REFUSED)))

@@ -102,16 +102,16 @@ def digests(part: Part) -> list[Message]:
 
 
 def frames(part: Part, kept: list[Message], is_canonical: bool) -> bytes:
-    """Returns some messages of a part as bytes, with a segment table before each message. The messages are unchanged,
-    or in canonical form."""
+    """Returns some messages of a part as bytes, with a segment table before each message. The messages are in canonical
+    form if `is_canonical` is set, and otherwise unchanged."""
     data = part.read()
     found = b"".join(data[message.begin:message.end] for message in kept)
     return capn("canonical", "--framed", input=found) if is_canonical else found
 
 
 class Choice:
-    """Of the messages that have the same value, chooses the first. A `Choice` takes the parts one after the other, and
-    counts their messages."""
+    """Chooses the messages that are kept. If several messages have the same value, only the first of them is kept. The
+    object takes the parts of all files one after the other, and counts their messages."""
 
     def __init__(self) -> None:
         self.seen: set[str] = set()
@@ -134,8 +134,8 @@ class Choice:
 
 
 def tasks(client: Client, *call: Any, **options: Any) -> list[Future]:
-    """Returns a Dask task for each argument of a call. Each task gets a new key, because of pure=False. Dask would
-    otherwise compute the keys from the arguments, and give two equal parts the same key."""
+    """Returns Dask tasks, as `client.map` does. With pure=False, each task gets a new key. Without it, Dask would
+    compute the keys from the arguments, and give two equal parts the same key."""
     return client.map(*call, **options, pure=False)
 
 

@@ -5,8 +5,8 @@
 // To count the words of the orphans, the program drops the orphans after it has written the message. The library then
 // sets their words to zero.
 //
-// The builders make all changes that move objects or leave gaps. They drop objects, overwrite them, take them out and
-// put them back, truncate and extend lists, and make structs larger, as a newer schema does.
+// The builders make all kinds of changes that move objects or leave gaps. They drop objects, overwrite them, take them
+// out and put them back, truncate and extend lists, and make structs larger, as a program with a newer schema does.
 #include <capnp/any.h>
 #include <capnp/message.h>
 #include <capnp/orphan.h>

@@ -172,8 +172,8 @@ fn main() -> std::io::Result<()> {
         if source.below(10) > 0 {
             writeln!(told, "0 orphans, 0 words")?;
         } else {
-            // The crate clears the pointer, and also sets the words of the object to zero. A builder that clears only
-            // the pointer leaves these words in the message.
+            // The crate capnp clears the pointer, and also sets the words of the object to zero. Another builder may
+            // clear only the pointer, and leave the words of the object in the message.
             let mut root = message.get_root::<Pointer>().expect("the root that was made").0;
             struct_in(&mut root, size).get_pointer_field(orphaned as usize).clear();
             let cleared = segments(&message);

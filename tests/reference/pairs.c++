@@ -97,8 +97,8 @@ static void change(Value& value, bool isRow) {
 // Writes a value into a message, in a random layout.
 class Layout {
 public:
-  // A struct may have up to `spare` words and `spare` pointers more than its value needs. With 0, no gap is made, and
-  // no object is moved.
+  // A struct may have up to `spare` words and `spare` pointers more than its value needs. If `spare` is 0, no gap is
+  // made, and no object is moved.
   explicit Layout(unsigned spare) : spare(spare) {}
 
   void put(const Value& value, capnp::AnyPointer::Builder to) {

@@ -1,6 +1,7 @@
 /* Compares pairs of messages with the C library. Two consecutive messages on standard input are a pair. Prints `same`
- * or `different` if the canonical bytes agree with all results of capn_same, and otherwise which result is wrong.
- * capn_same is called on the two messages as streams in each order, packed, and in canonical form without a table. */
+ * or `different` if the canonical bytes agree with all results of capn_same, and otherwise prints which result is
+ * wrong. capn_same is called on the two messages as streams in each order, packed, and in canonical form without a
+ * table. */
 #include "capn.h"
 
 #include <stdint.h>
