@@ -13,8 +13,8 @@ static const capn_limits usual = CAPN_USUAL_LIMITS;
 #define HIDDEN __attribute__((visibility("hidden")))
 #define SELDOM __attribute__((cold, noinline))
 
-/* Defines a call with limits and a report. The arguments of the macro are the call's name, its parameters, and the
- * names of its parameters. */
+/* Defines a call that takes limits and a report. The arguments of the macro are the call's name, its parameters, and
+ * the names of its parameters. */
 #define WITH_LIMITS(name, parameters, passed) \
     HIDDEN capn_status proved_##name parameters; \
     static SELDOM capn_status name##_by_default parameters { \
@@ -28,7 +28,7 @@ static const capn_limits usual = CAPN_USUAL_LIMITS;
         return proved_##name passed; \
     }
 
-/* Defines a call with a report and without limits. */
+/* Defines a call that takes a report, but no limits. */
 #define WITH_REPORT(name, parameters, passed) \
     HIDDEN capn_status proved_##name parameters; \
     static SELDOM capn_status name##_by_default parameters { \
@@ -96,7 +96,7 @@ WITH_LIMITS(capn_annotate,
              size_t most_lines, capn_report *report),
             (form, bytes, size, limits, lines, most_lines, report))
 
-/* Defines a call that takes two messages. The argument `which` of this call may be null, like `limits` and `report`. */
+/* Defines a call that takes two messages. The arguments `limits`, `which` and `report` of this call may be null. */
 HIDDEN capn_status proved_capn_same(uint32_t form, const uint8_t *a, size_t size_a, const uint8_t *b, size_t size_b,
                                     const capn_limits *limits, uint32_t *which, capn_report *report);
 static SELDOM capn_status capn_same_by_default(uint32_t form, const uint8_t *a, size_t size_a, const uint8_t *b,

@@ -18,7 +18,7 @@ static uint8_t *read_all(const char *name, size_t *size) {
         if (!more) free(bytes);
         bytes = more;
     }
-    if (bytes && ferror(file)) { /* fread also returns 0 on a read error, which is not the end of the file */
+    if (bytes && ferror(file)) { /* fread returns 0 at the end of the file, and also after a read error */
         free(bytes);
         bytes = NULL;
     }

@@ -1,6 +1,7 @@
 // Makes a message with a builder of the reference implementation, and writes the bytes of the message. These bytes
-// aren't canonical. With the argument `twice`, the program sets a text a second time. With `upgraded`, it gets a list
-// of numbers as a list of structs. With `empty`, it gets the root while the root pointer is still null.
+// aren't canonical. With the argument `twice`, the program sets a text a second time. With `upgraded`, it makes a list
+// of numbers. It then calls the getter of another schema, which has a list of structs in this place. With `empty`, it
+// calls the getter of the root while the root pointer is still null.
 
 #include <capnp/message.h>
 #include <kj/io.h>

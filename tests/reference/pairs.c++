@@ -28,7 +28,7 @@ static std::mt19937_64 source;
 
 static unsigned below(unsigned most) { return unsigned(source() % most); }
 
-// Returns the lowest bits of a number: as many as an element has in the given kind of list.
+// Returns the lowest bits of a number: as many bits as an element of the given kind of list has.
 static uint64_t cut(Kind kind, uint64_t number) {
   switch (kind) {
     case VOIDS: return 0;
@@ -57,8 +57,8 @@ static Value valueOf(Kind kind, unsigned depth) {
   return made;
 }
 
-// Collects a value and all values inside it in `all`. With each value, `all` has whether the value is a struct in a
-// list.
+// Collects a value and all values inside it in `all`. For each value, `all` also says whether the value is an element
+// of a list of structs.
 static void collect(Value& value, bool isRow, std::vector<std::pair<Value*, bool>>& all) {
   all.push_back({&value, isRow});
   for (auto& part : value.parts) collect(part, value.kind == ROWS, all);
