@@ -69,8 +69,8 @@ def all_cases():
 
 
 def asked(cases, before=""):
-    """Returns the input with which a program answers the given cases. In this input, the text `before` precedes each
-    call."""
+    """Returns the input with which a program answers the given cases. The argument `before` is a text that is put in
+    front of each call."""
     return "".join(f"{case.name}\n{before}{case.call}\n" for case in cases)
 
 

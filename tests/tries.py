@@ -196,8 +196,8 @@ def items_of(crate, module):
 
 @functools.cache
 def items(crate):
-    """Returns what a crate of the product exports, as `items_of` yields it. Leaves out the modules of laws. A law is a
-    function that nothing calls, since it only states a theorem in its contract."""
+    """Returns what a crate of the product exports, in the form that `items_of` yields. Leaves out the modules of laws.
+    A law is a function that nothing calls, since it only states a theorem in its contract."""
     if not os.path.exists(os.path.join(TOP, "crates", crate, "src", "lib.rt")):
         return ()
     modules = re.findall(r"^pub mod (\w+);", text_of("crates", crate, "src", "lib.rt"), re.M)
@@ -298,7 +298,7 @@ def is_named(function, file):
 
 
 def naming(function):
-    """Returns the paths of the test files that name an exported function."""
+    """Returns the paths of the test files that use the given exported function."""
     return sorted(path for path, file in test_files().items() if is_named(function, file))
 
 
@@ -361,8 +361,8 @@ def nearest(crate, names, tried):
 
 def calls_reaching(crate, names):
     """Finds the first program with a call that uses the given crate. Returns the program, and all of its calls that use
-    the crate. The call's modules have to import the crate. If no module of the program does, an indirect import is
-    enough."""
+    the crate. The call's modules have to import the crate themselves. If no module of the program imports the crate, an
+    indirect import is enough."""
     for one in stored.CRATES:
         found = dict(crates_of_calls(one))
         if crate == one or crate in names[one] and crate not in set().union(*found.values()):

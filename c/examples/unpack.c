@@ -5,7 +5,7 @@
 #include <string.h>
 
 int main(void) {
-    static uint8_t in[1 << 16], out[1 << 16]; /* a packed group has at most 2,050 bytes, and unpacks to at most 2,048 */
+    static uint8_t in[1 << 16], out[1 << 16]; /* a group has at most 2,050 packed bytes, or 2,048 unpacked bytes */
     size_t have = 0, came;
     capn_report report;
     do {

@@ -21,8 +21,8 @@ from messages import canonical, framed, in_two_segments, with_zeros
 
 CAPN = os.environ["CAPN"]
 MEGABYTE = 1 << 20
-# The messages after a damaged segment table are repeated this number of times. They then have more than the 5,000 words
-# that one damaged table announces.
+# The messages after a damaged segment table are repeated this number of times. Together, the repeated messages have
+# more words than the 5,000 that one damaged table announces.
 MANY = 6
 Ran = tuple[bytes, str, int]
 Place = tuple[int, int, str]

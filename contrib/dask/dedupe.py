@@ -134,8 +134,8 @@ class Choice:
 
 
 def tasks(client: Client, *call: Any, **options: Any) -> list[Future]:
-    """Returns Dask tasks, as `client.map` does. With pure=False, each task gets a new key. Without it, Dask would
-    compute the keys from the arguments, and give two equal parts the same key."""
+    """Returns Dask tasks, as `client.map` does. With pure=False, each task gets a new key. Without pure=False, Dask
+    would compute the keys from the arguments, and give two equal parts the same key."""
     return client.map(*call, **options, pure=False)
 
 

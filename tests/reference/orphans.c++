@@ -93,8 +93,8 @@ static void change(capnp::AnyPointer::Builder to, unsigned depth) {
       break;
     }
     case 4: {
-      // Does what two programs do: one makes the struct with an older schema, and the other writes to it with a newer
-      // schema, which has more fields.
+      // Does what two programs do. One program makes a struct with an older schema. The other program has a newer
+      // schema with more fields, and writes to this struct.
       fill(to.initAsAnyStruct(1, 1), depth ? depth - 1 : 0);
       auto larger = to.getAs<capnp::AnyStruct>();
       capnp::MallocMessageBuilder copy;

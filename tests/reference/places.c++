@@ -1,6 +1,6 @@
 // Writes where the reference implementation finds the objects of each message of a stream. Prints a line for each
-// pointer, in preorder. The line has the object's offset from the beginning of the message's segment table. If the
-// implementation rejects a message, there is only one line for it.
+// pointer, in preorder. The line has the object's offset from the beginning of the message's segment table. For a
+// message that the implementation rejects, the program prints only one line.
 
 #include <capnp/any.h>
 #include <capnp/serialize.h>
