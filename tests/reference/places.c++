@@ -102,8 +102,8 @@ void message(const std::vector<unsigned char>& bytes) {
 
 }  // namespace
 
-// The length of a message in bytes comes before the message. It is a number of four bytes, the least significant byte
-// first.
+// On standard input, the length of a message comes before the message. The length is a number of bytes, written as four
+// bytes, the least significant byte first.
 int main() {
   unsigned char head[4];
   while (fread(head, 1, 4, stdin) == 4) {
