@@ -303,8 +303,8 @@ def naming(function):
 
 
 def jobs_naming(files):
-    """Yields the jobs for the given test files. They run all tests of the files' crates, and the test cases whose calls
-    depend on one of the files."""
+    """Yields the jobs for the given test files. The jobs run all tests of the files' crates, and the test cases whose
+    calls depend on one of the files."""
     for crate in sorted({file.split("/")[1] for file in files}):
         if tests_of(crate):
             yield tests_job(crate)
