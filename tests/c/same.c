@@ -176,7 +176,7 @@ static void segments(void) {
 }
 
 /* Tests that capn_same doesn't read the second message if the first message is rejected. Also tests that a caller may
- * pass the same bytes in memory as both messages. */
+ * pass one buffer as the first message and as the second. */
 static void order(void) {
     static const uint8_t null[16] = {0, 0, 0, 0, 1};
     uint8_t holds[16];

@@ -85,8 +85,9 @@ def things(found):
 
 
 def parts(found, shown):
-    """Reads the object of a pointer as each kind of object. For each kind, yields what `shown` makes of the object's
-    numbers, or `-` if the object can't be read as this kind."""
+    """Reads the object of a pointer as each kind of object. For each kind, calls `shown` with the numbers that were
+    read, such as lengths and elements. Yields the result of `shown`, or `-` if the object can't be read as this
+    kind."""
     for call, numbers in things(found):
         try:
             answer = call()
