@@ -29,8 +29,9 @@
  *     compares, and for the lines of capn_annotate: 16 bytes for each word of the message, and 4 for each segment.
  *
  * A call needs at most 16 KiB of stack, and 304 bytes more for each level of depth that the limits allow. capn_show
- * needs 432 bytes a level, capn_index 560, and capn_same 576. With a depth of 256 that is 92 KiB, and 124 KiB for
- * capn_show, 156 KiB for capn_index and 160 KiB for capn_same. These numbers are measured. */
+ * needs 432 bytes a level, capn_index 560, capn_same 576, and capn_annotate 480. With a depth of 256 that is 92 KiB,
+ * and 124 KiB for capn_show, 156 KiB for capn_index, 160 KiB for capn_same and 136 KiB for capn_annotate. These numbers
+ * are measured. */
 #ifndef CAPN_H
 #define CAPN_H
 

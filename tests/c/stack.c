@@ -3,9 +3,9 @@
  * of objects as deep as the limit allows. They have one segment, two segments, or more segments than a call reads
  * without an allocation. */
 
-/* The arguments are bounds in bytes: stack BASE OTHERS SHOW INDEX SAME. Each call may use BASE bytes of stack, and more
- * for each level of depth: SHOW bytes for capn_show, INDEX for capn_index, SAME for capn_same, and OTHERS for every
- * other call. */
+/* The arguments are bounds in bytes: stack BASE OTHERS SHOW INDEX SAME ANNOTATE. Each call may use BASE bytes of stack,
+ * and more for each level of depth: SHOW bytes for capn_show, INDEX for capn_index, SAME for capn_same, ANNOTATE for
+ * capn_annotate, and OTHERS for every other call. */
 #include "usual.h"
 #include <pthread.h>
 #include <stdio.h>
@@ -13,10 +13,10 @@
 #include <string.h>
 
 enum { ROOM = 1 << 20 };
-enum { MOST_SEGMENTS = 66, CALLS = 32, KINDS = 4 };
-/* A call may use `base` bytes of stack, and `levels` bytes more for each level of depth. capn_show, capn_index and
- * capn_same have their own numbers in `levels`. The first number is for all other calls. */
-static const char *const names[KINDS] = {"", "capn_show ", "capn_index ", "capn_same "};
+enum { MOST_SEGMENTS = 66, CALLS = 32, KINDS = 5 };
+/* A call may use `base` bytes of stack, and `levels` bytes more for each level of depth. capn_show, capn_index,
+ * capn_same and capn_annotate have their own numbers in `levels`. The first number is for all other calls. */
+static const char *const names[KINDS] = {"", "capn_show ", "capn_index ", "capn_same ", "capn_annotate "};
 static size_t base, levels[KINDS];
 static uint8_t in[8 * 4096], framed[8 * 4096 + 1024], text[ROOM], scratch[ROOM];
 static _Alignas(8) uint8_t out[ROOM];
@@ -171,7 +171,8 @@ int main(int count, char **words) {
                     printf("stack: call %d at depth %u, kind %d: status %u\n", call, depth, kind, status);
                     return 4;
                 }
-                const int of = call >= 14 && call <= 17 ? 1 : call == 9 ? 2 : call >= 25 && call <= 27 ? 3 : 0;
+                const int of = call >= 14 && call <= 17 ? 1 : call == 9 ? 2 : call >= 25 && call <= 27 ? 3
+                    : call == 29 || call == 30 ? 4 : 0;
                 if (used > most[of][d]) most[of][d] = used;
                 free(stack);
             }
