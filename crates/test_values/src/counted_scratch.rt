@@ -7,8 +7,8 @@ use std::sync::ledger::Ledger;
 #[derive(Drop)]
 struct Reading;
 
-/// What a task read: the lengths of the bytes and of the scratch, the second byte, the number in the second four bytes,
-/// and the lengths and first bytes of two parts.
+/// The results of a task's reads: the lengths of the bytes and of the scratch, the second byte, the number in the
+/// second four bytes, and the lengths and first bytes of two parts.
 #[derive(Clone, Copy, Debug, PartialEq, Eq)]
 struct Read {
     bytes: usize,
